@@ -1,0 +1,145 @@
+-- The controller's rows: read back from their bytes and followed from a state they choose letters of the table and keep every run from
+-- that state's winner to K. The winner of the state reached guards the runs (`Guards` of Winning.antt): its output leads back into the winning set
+-- on every input, so it and the position half way are safe, and the next state's winner is over the position after the round.
+use mathlib.Core.Path.{_≡_, refl, sym, ap, _∙_}
+use mathlib.Core.Logic.{⊎-elim}
+use mathlib.Core.Bool.{Bool, true}
+use mathlib.Core.List.{List, [], _∷_, flatMap}
+use Prim.Native.Nat.{ℕ, _*_, _<_}
+use native.Mathlib.Nat.{le-trans}
+use native.Mathlib.Omega.{arith}
+use lib.ListN.{length, getD}
+use Rattle.meaning.specs.Lists.{each}
+use Rattle.meaning.specs.Records.{recordsOf}
+use Rattle.meaning.specs.Table.{Table, onOutput, onInput}
+use Rattle.meaning.specs.Counting.{Position, count, forward, safe, below}
+use Rattle.meaning.specs.Rounds.{Set, winning}
+use Rattle.meaning.specs.Written.{winners, covering, afterRound, outputOf, startState, Row, rowBytes, rowsOfState, controllerRows}
+use Rattle.meaning.specs.Play.{Legal, Keeps, rowsIn, rowOutput, stateAfter, follow}
+use Rattle.meaning.proofs.Tests.{each-at, each-of, first-holds, first-found}
+use Rattle.meaning.proofs.Lists.{tab-length, member-at, place-holds, flatMap-length}
+use Rattle.meaning.proofs.Steps.{safe-at, safe-of, plus-from-safe, forward-length, forward-brings}
+use Rattle.meaning.proofs.Positions.{allSafe-safe}
+use Rattle.meaning.proofs.Rounds.{FirstSet, setA-leads, setB-leads, winning-safe, winning-fixed}
+use Rattle.meaning.proofs.Maximal.{member-in, winning-covered, StartCovered}
+use Rattle.meaning.proofs.Good.{Good}
+use Rattle.meaning.proofs.Winning.{Guards, guards-keep}
+use Rattle.meaning.proofs.Lookups.{order-length, winnerAt, outputAt, nextAt, rowAt, states, output-found, next-found, some-output-found}
+
+-- rows come back from their bytes
+pub rows-back : (rows : List Row) → rowsIn (rowBytes rows) ≡ rows
+unfolding rowsIn rowBytes recordsOf flatMap
+rows-back [] = refl
+rows-back (r ∷ rows) = ap {B = List Row} (λ rest. r ∷ rest) (rows-back rows)
+
+-- "one for each state and input": their number, where the start state is one of the winners
+pub rows-number : (K : ℕ) (t : Table) (X : Set) → StartCovered K t X → length (controllerRows K t X) ≡ length (winners K t X) * t .inputs
+unfolding controllerRows rowsOfState
+rows-number K t X h =
+    flatMap-length (rowsOfState K t (winning K t X) (winners K t X)) (t .inputs) (states K t X) (λ s. tab-length (t .inputs) (rowAt K t X s))
+    ∙ ap (λ n. n * t .inputs) (order-length (startState t (winners K t X)) (length (winners K t X)) h)
+
+-- from the output o every input leads back into the winning set
+abbrev pub leadsBack : ℕ → Table → Set → Position → ℕ → Bool
+leadsBack K t X F o = each (t .inputs) (λ i. winning K t X (afterRound K t o i F))
+
+module _ (K : ℕ) (t : Table) (X : Set) (good : Good t) (first : FirstSet K t X) where
+  -- in a winning position some output leads back, so the smallest is a letter, and it leads back
+  pub some-leads-back : (F : Position) → winning K t X F ≡ true → (o : ℕ) × (o < t .outputs) × (leadsBack K t X F o ≡ true)
+  unfolding afterRound
+  some-leads-back F won =
+      let W = winning K t X in
+      let o = setB-leads K t W (t .outputs) F (sym (winning-fixed K t X first (good .some-output) F) ∙ won) in
+      let G = forward K (onOutput t (o .0)) F in
+      (o .0, o .1, each-of (t .inputs) (λ i. W (forward K (onInput t i) G)) (setA-leads K t W (t .inputs) G (o .2)))
+
+  pub output-letter : (F : Position) → winning K t X F ≡ true → outputOf K t (winning K t X) F < t .outputs
+  unfolding outputOf
+  output-letter F won =
+      let o = some-leads-back F won in
+      let h : o .0 < t .outputs = o .1 in
+      omega (arith, first-found (t .outputs) (leadsBack K t X F) (o .0) h (o .2))
+
+  pub output-wins : (F : Position) → winning K t X F ≡ true → (i : ℕ) → i < t .inputs
+      → winning K t X (afterRound K t (outputOf K t (winning K t X) F) i F) ≡ true
+  unfolding outputOf
+  output-wins F won =
+      each-at (t .inputs) (λ i. winning K t X (afterRound K t (outputOf K t (winning K t X) F) i F))
+      (first-holds (t .outputs) (leadsBack K t X F) (output-letter F won))
+
+  -- a winning position is safe
+  pub won-safe : (F : Position) → winning K t X F ≡ true → safe K F ≡ true
+  won-safe F won = allSafe-safe K (t .controllers) F (winning-safe K t X first F won)
+
+  -- so is the position half way: an overrun there would still be one after the round, whatever the input
+  pub middle-safe : (F : Position) → winning K t X F ≡ true → safe K (forward K (onOutput t (outputOf K t (winning K t X) F)) F) ≡ true
+  unfolding afterRound
+  middle-safe F won =
+      let G = forward K (onOutput t (outputOf K t (winning K t X) F)) F in
+      let after = forward K (onInput t 0) G in
+      let counted = safe-at K after (won-safe after (output-wins F won 0 (good .some-input))) in
+      safe-of K G (λ w l.
+      let declared : w < t .worlds = rw (forward-length K (onOutput t (outputOf K t (winning K t X) F)) F) at l in
+      let r = good .input-leads 0 w (good .some-input) declared in
+      let brought = forward-brings K (onInput t 0) G w (r .0) declared (good .input-ends 0 w (r .0) (r .1) .2) (r .1) in
+      plus-from-safe K (t .controllerMark (r .0)) (count G w) (le-trans brought (counted (r .0))))
+
+  -- a winner is in the winning set
+  pub winner-wins : (s : ℕ) → s < length (winners K t X) → winning K t X (winnerAt K t X s) ≡ true
+  unfolding winners
+  winner-wins s h =
+      member-in K (t .controllers) (winning K t X) (winning-safe K t X first) (winnerAt K t X s) (member-at (winners K t X) s [] h)
+
+  -- its next state is one of the winners, and over the position after the round
+  pub next-winner : (s i : ℕ) → s < length (winners K t X) → i < t .inputs → nextAt K t X s i < length (winners K t X)
+  unfolding afterRound
+  next-winner s i h l =
+      winning-covered K t X first (afterRound K t (outputAt K t X s) i (winnerAt K t X s)) (forward-length K (onInput t i) _) .0
+      (output-wins (winnerAt K t X s) (winner-wins s h) i l)
+
+  pub next-over : (s i : ℕ) → s < length (winners K t X) → i < t .inputs
+      → below (afterRound K t (outputAt K t X s) i (winnerAt K t X s)) (winnerAt K t X (nextAt K t X s i)) ≡ true
+  unfolding covering
+  next-over s i h l =
+      place-holds (below (afterRound K t (outputAt K t X s) i (winnerAt K t X s))) (winners K t X) [] (next-winner s i h l)
+
+-- the state that the rows, followed from s, have reached after these inputs
+abbrev pub stateReached : ℕ → Table → Set → ℕ → List ℕ → ℕ
+stateReached K t X s inputs = stateAfter (controllerRows K t X) s inputs
+
+module _ (K : ℕ) (t : Table) (X : Set) (good : Good t) (first : FirstSet K t X) (covered : StartCovered K t X) where
+  pub rows-legal : (s : ℕ) → Legal t (follow (controllerRows K t X) s)
+  unfolding follow
+  rows-legal s inputs =
+      ⊎-elim (λ w. rw (w .2) (output-letter K t X good first (winnerAt K t X (w .0)) (winner-wins K t X good first (w .0) (w .1))))
+      (λ none. rw none (good .some-output))
+      (some-output-found K t X covered (stateReached K t X s inputs))
+
+  -- the winner of the state reached guards the runs, as long as that state is one of the winners'
+  pub rows-guard : (s : ℕ) → s < length (winners K t X)
+      → Guards K t (follow (controllerRows K t X) s) (λ inputs. winnerAt K t X (stateReached K t X s inputs))
+      (λ inputs. stateReached K t X s inputs < length (winners K t X))
+  unfolding stateAfter follow
+  rows-guard s h =
+      let won : (q : ℕ) → q < length (winners K t X) → winning K t X (winnerAt K t X q) ≡ true = winner-wins K t X good first in
+      let says : (q : ℕ) → q < length (winners K t X) → rowOutput (controllerRows K t X) q ≡ outputAt K t X q =
+      λ q on. output-found K t X covered q on (good .some-input) in
+      record {
+        begins = h;
+        continues = λ inputs i l on.
+            let q = stateReached K t X s inputs in
+            rw (next-found K t X covered q i on l) (next-winner K t X good first q i on l);
+        whole = λ inputs on. let q = stateReached K t X s inputs in won-safe K t X good first (winnerAt K t X q) (won q on);
+        half = λ inputs on.
+            let q = stateReached K t X s inputs in
+            rw (says q on) (middle-safe K t X good first (winnerAt K t X q) (won q on));
+        next = λ inputs i l on.
+            let q = stateReached K t X s inputs in
+            rw (says q on, next-found K t X covered q i on l) (next-over K t X good first q i on l);
+      }
+
+  pub rows-keep : (s : ℕ) → s < length (winners K t X) → Keeps K t (getD (winners K t X) s []) (follow (controllerRows K t X) s)
+  unfolding stateAfter
+  rows-keep s h =
+      guards-keep K t good (follow (controllerRows K t X) s) (λ inputs. winnerAt K t X (stateReached K t X s inputs))
+      (λ inputs. stateReached K t X s inputs < length (winners K t X)) (rows-guard s h)

@@ -1,0 +1,10 @@
+-- What everything means, in the order of document 01.
+pub mod Lists
+pub mod Records
+pub mod Table
+pub mod Counting
+pub mod Rounds
+pub mod Written
+pub mod Join
+pub mod Answers
+pub mod Play

@@ -1,0 +1,67 @@
+-- Document 01, "Table records": the table that records state, its sides, letters, marks and edges.
+use mathlib.Core.Bool.{Bool, _&&_}
+use mathlib.Core.List.{List}
+use Prim.Native.Nat.{ℕ, suc, _/_, _%_, _^_}
+use lib.ListN.{length}
+use lib.Dec.{eqb, ltb}
+use Rattle.meaning.specs.Lists.{any, largest}
+use Rattle.meaning.specs.Records.{Record, at, ofKind, same, recordsOf, controller, world, output, input}
+
+-- One letter's step from one side to the other: how many states each side has, the edges on that letter, and the mark of the
+-- state entered. "Kind 3 leads from a controller-turn state to a world-turn state, kind 4 back": both are such halves of a round.
+pub record Half : Type 0 where
+  pub sources : ℕ
+  pub targets : ℕ
+  pub edge : ℕ → ℕ → Bool
+  pub mark : ℕ → ℕ
+
+-- A turn-based universal automaton. An edge is named by its letter, the state it is from and the state it is to
+pub record Table : Type 0 where
+  pub controllers : ℕ
+  pub worlds : ℕ
+  pub outputs : ℕ
+  pub inputs : ℕ
+  pub starts : ℕ → Bool
+  pub controllerMark : ℕ → ℕ
+  pub worldMark : ℕ → ℕ
+  pub outputEdge : ℕ → ℕ → ℕ → Bool
+  pub inputEdge : ℕ → ℕ → ℕ → Bool
+
+abbrev pub onOutput : Table → ℕ → Half
+onOutput t o = record { sources = t .controllers; targets = t .worlds; edge = t .outputEdge o; mark = t .worldMark }
+
+abbrev pub onInput : Table → ℕ → Half
+onInput t i = record { sources = t .worlds; targets = t .controllers; edge = t .inputEdge i; mark = t .controllerMark }
+
+-- "The number of outputs is one more than the largest letter in kind 3, or 0 if there is none; inputs likewise from kind 4."
+unfoldable pub letters : ℕ → List Record → ℕ
+letters kind rs = let es = ofKind kind rs in largest (length es) (λ i. suc (at es i .letter))
+
+-- "flags: 1 marked, 2 start". "The mark is 1 for a marked state and 0 otherwise." State q of a side is its record number q.
+unfoldable pub markOf : ℕ → List Record → ℕ → ℕ
+markOf kind rs = let states = ofKind kind rs in λ q. at states q .letter % 2
+
+unfoldable pub startOf : List Record → ℕ → Bool
+startOf rs = let states = ofKind controller rs in λ q. eqb (at states q .letter / 2) 1
+
+-- "Several edges may share a state and a letter: all of them are followed."
+unfoldable pub edgeOf : ℕ → List Record → ℕ → ℕ → ℕ → Bool
+edgeOf kind rs letter p q = any (same (record { kind = kind; from = p; letter = letter; to = q })) rs
+
+unfoldable pub tableOf : List Record → Table
+tableOf rs =
+    record {
+      controllers = length (ofKind controller rs);
+      worlds = length (ofKind world rs);
+      outputs = letters output rs;
+      inputs = letters input rs;
+      starts = startOf rs;
+      controllerMark = markOf controller rs;
+      worldMark = markOf world rs;
+      outputEdge = edgeOf output rs;
+      inputEdge = edgeOf input rs;
+    }
+
+-- "The targets of one state on one letter are kept as eight bits": bit q of a mask
+unfoldable pub bit : ℕ → ℕ → Bool
+bit mask q = ltb q 8 && eqb (mask / 2 ^ q % 2) 1

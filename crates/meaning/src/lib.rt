@@ -1,0 +1,79 @@
+// The types that every call answers with, and document 01's number for each of their cases.
+ghost use mathlib.Core.Path.{_≡_};
+ghost use Rattle.meaning.specs.Answers.{numberOf, codeOf, startOf};
+
+// "Every answer carries a code, a place, which, rounds, number of winners, start. The verdict
+// holds the controller's start, unrealizable, or the refusal's own case."
+pub struct Answer {
+    pub verdict: Verdict,
+    pub place: usize,
+    pub which: usize,
+    pub rounds: usize,
+    pub winners: usize,
+}
+
+pub enum Verdict {
+    Realizable(usize),
+    Unrealizable,
+    Refused(Refusal),
+}
+
+// The numbered reasons, 2 to 14, in their order.
+pub enum Refusal {
+    Bound,
+    Room,
+    Length,
+    Record,
+    Order,
+    States,
+    Start,
+    Edge,
+    Gap,
+    Full,
+    Nothing,
+    Letters,
+    Size,
+}
+
+// The number of a refusal in document 01's table.
+pub fn number(refusal: Refusal) -> usize
+    ensures { λ r. ⌜ r ≡ numberOf refusal ⌝ }
+{
+    match refusal {
+        Refusal::Bound => 2,
+        Refusal::Room => 3,
+        Refusal::Length => 4,
+        Refusal::Record => 5,
+        Refusal::Order => 6,
+        Refusal::States => 7,
+        Refusal::Start => 8,
+        Refusal::Edge => 9,
+        Refusal::Gap => 10,
+        Refusal::Full => 11,
+        Refusal::Nothing => 12,
+        Refusal::Letters => 13,
+        Refusal::Size => 14,
+    }
+}
+
+// The code of an answer.
+pub fn code(verdict: Verdict) -> usize
+    ensures { λ r. ⌜ r ≡ codeOf verdict ⌝ }
+{
+    match verdict {
+        Verdict::Realizable(_) => 0,
+        Verdict::Unrealizable => 1,
+        Verdict::Refused(refusal) => number(refusal),
+    }
+}
+
+// The start of an answer: 0 unless the table is realizable.
+pub fn start(verdict: Verdict) -> usize
+    ensures { λ r. ⌜ r ≡ startOf verdict ⌝ }
+{
+    match verdict {
+        Verdict::Realizable(at) => at,
+        Verdict::Unrealizable => 0,
+        Verdict::Refused(_) => 0,
+    }
+}
