@@ -1,0 +1,57 @@
+-- The steps over arrays. What the masks' edges bring to a state, or leave to it, is the count that the definition's step of the eight counts has
+-- there: counts within an array are read alike on both sides, and no edge comes from or leads to a state from 8 on. Assumes nothing.
+use mathlib.Core.Path.{_≡_, sym, _∙_}
+use mathlib.Core.Bool.{cond}
+use mathlib.Core.List.{List}
+use Prim.Native.Nat.{ℕ, _+_, _-_, _≤_, _<_}
+use native.Mathlib.Decide.{decLt}
+use native.Mathlib.Omega.{arith}
+use lib.IntN.{ℤ}
+use lib.ListN.{length, getD}
+use Rattle.meaning.specs.Lists.{largest, smallest}
+use Rattle.meaning.specs.Table.{bit}
+use Rattle.meaning.specs.Counting.{count, plus, forward, back}
+use Rattle.meaning.proofs.Tests.{largest-same, smallest-same}
+use Rattle.meaning.proofs.Steps.{count-beyond, forward-length, forward-at, back-length, back-at}
+use Rattle.counts.specs.Cells.{cell, cells, halfOf}
+use Rattle.counts.specs.declared.position.Half.{Half}
+use Rattle.counts.proofs.Cells.{cells-at}
+use Rattle.counts.proofs.Edges.{bit-beyond, mask-beyond}
+
+-- what state p brings to state q going forward
+abbrev pub brought : ℕ → Half → List ℤ → ℕ → ℕ → ℕ
+brought k half m q p = cond (bit (getD (half .masks) p 0) q) (plus k (getD (half .marks) q 0) (cell m p)) 0
+
+-- what state q, its mark taken off already, leaves to the mask's source going back
+abbrev pub left : ℕ → ℕ → List ℤ → ℕ → ℕ
+left k mask eased q = cond (bit mask q) (cell eased q) (k + 1)
+
+module _ (k : ℕ) (half : Half) (m : List ℤ) where
+  pub forward-brought : (q : ℕ) → length (half .masks) ≡ 8 → q < half .targets
+      → largest (half .sources) (brought k half m q) ≡ count (forward k (halfOf half) (cells m)) q
+  unfolding halfOf
+  forward-brought q e l = largest-same (half .sources) _ _ (λ p _. go p (decLt p 8)) ∙ sym (forward-at k (halfOf half) (cells m) q l)
+    where
+      go : (p : ℕ) → Dec (p < 8)
+          → brought k half m q p ≡ cond (bit (getD (half .masks) p 0) q) (plus k (getD (half .marks) q 0) (count (cells m) p)) 0
+      go p (yes b) = rw (cells-at m p b)
+      go p (no b) = rw (mask-beyond (half .masks) p q e (omega arith))
+
+  pub forward-none : (q : ℕ) → half .targets ≤ q → count (forward k (halfOf half) (cells m)) q ≡ 0
+  unfolding halfOf
+  forward-none q l = count-beyond (forward k (halfOf half) (cells m)) q (rw (forward-length k (halfOf half) (cells m)) l)
+
+  pub back-left : (eased : List ℤ) (p : ℕ) → ((q : ℕ) → q < 8 → cell eased q ≡ cell m q - getD (half .marks) q 0) → p < half .sources
+      → smallest (k + 1) (half .targets) (left k (getD (half .masks) p 0) eased) ≡ count (back k (halfOf half) (cells m)) p
+  unfolding halfOf
+  back-left eased p less l =
+      smallest-same (k + 1) (half .targets) _ _ (λ q _. go q (decLt q 8)) ∙ sym (back-at k (halfOf half) (cells m) p l)
+    where
+      go : (q : ℕ) → Dec (q < 8)
+          → left k (getD (half .masks) p 0) eased q ≡ cond (bit (getD (half .masks) p 0) q) (count (cells m) q - getD (half .marks) q 0) (k + 1)
+      go q (yes b) = rw (less q b, cells-at m q b)
+      go q (no b) = rw (bit-beyond (getD (half .masks) p 0) q (omega arith))
+
+  pub back-none : (p : ℕ) → half .sources ≤ p → count (back k (halfOf half) (cells m)) p ≡ 0
+  unfolding halfOf
+  back-none p l = count-beyond (back k (halfOf half) (cells m)) p (rw (back-length k (halfOf half) (cells m)) l)

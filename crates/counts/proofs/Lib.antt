@@ -1,0 +1,6 @@
+-- The laws that belong to no one function, each after those it cites.
+pub mod Signed
+pub mod Cells
+pub mod Edges
+pub mod Halves
+pub mod Wide

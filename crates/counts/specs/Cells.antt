@@ -1,0 +1,37 @@
+-- How positions and halves of a round stand in code: eight signed counts, and a byte of targets for each state.
+use mathlib.Core.Bool.{cond}
+use mathlib.Core.List.{List}
+use Prim.Native.Nat.{ℕ, min}
+use lib.ListN.{length, getD}
+use lib.IntN.{ℤ, pos}
+use Rattle.meaning.specs.Lists.{tab}
+use Rattle.meaning.specs.Table as T
+use Rattle.meaning.specs.Table.{bit}
+use Rattle.meaning.specs.Counting.{Position, oneHigher, count}
+use Rattle.counts.specs.declared.position.Half.{Half}
+
+-- the count that eight signed counts have at state q, one higher
+abbrev pub cell : List ℤ → ℕ → ℕ
+cell m q = oneHigher (getD m q (pos 0))
+
+-- the position that eight signed counts stand for
+unfoldable pub cells : List ℤ → Position
+cells m = tab 8 (cell m)
+
+-- the lesser counts of two positions
+unfoldable pub lesserCounts : Position → Position → Position
+lesserCounts F G = tab (length F) (λ q. min (count F q) (count G q))
+
+-- the half of a round that masks and marks state
+unfoldable pub halfOf : Half → T.Half
+halfOf h =
+    record {
+      sources = h .sources;
+      targets = h .targets;
+      edge = λ p q. bit (getD (h .masks) p 0) q;
+      mark = λ q. getD (h .marks) q 0;
+    }
+
+-- the start position that a mask of start states gives a side of n states
+unfoldable pub startCounts : ℕ → ℕ → Position
+startCounts n starts = tab n (λ q. cond (bit starts q) 1 0)

@@ -1,0 +1,177 @@
+// One position: eight counts, -1 where no run is and where the side has no state.
+use crate::count;
+ghost use mathlib.Core.Path.{_≡_};
+ghost use mathlib.Core.Bool.{cond, _&&_};
+ghost use Prim.Native.Nat.{_≤_, _+_};
+ghost use lib.ListN.{getD};
+ghost use Rattle.meaning.specs.Lists.{before as beforeBytes, largest, smallest};
+ghost use Rattle.meaning.specs.Counting.{oneHigher, below as belowAll, plus, forward as forwardBy, back as backBy};
+ghost use Rattle.counts.specs.Cells.{cell, cells, lesserCounts, halfOf, startCounts};
+ghost use Rattle.meaning.specs.Written.{positionBytes};
+ghost use Rattle.meaning.specs.Table.{bit};
+
+// One letter's half of a round: for each source a byte of targets, for each target its mark.
+pub struct Half {
+    pub sources: usize,
+    pub targets: usize,
+    pub masks: [u8; 8],
+    pub marks: [u8; 8],
+}
+
+// Whether each count of one position is at most the other's. No early exit: vector instructions
+// compare all eight at once.
+pub fn below(a: &[i8; 8], b: &[i8; 8]) -> bool
+    ensures { λ r. ⌜ r ≡ belowAll (cells (now (a .entry))) (cells (now (b .entry))) ⌝ }
+{
+    let mut held = true;
+    let mut q = 0;
+    while q < 8 {
+        held = held & count::at_most(a[q], b[q]);
+        q += 1;
+    }
+    held
+}
+
+// The lesser counts of two positions.
+pub fn lesser(a: &[i8; 8], b: &[i8; 8]) -> [i8; 8]
+    ensures { λ r. ⌜ cells r ≡ lesserCounts (cells (now (a .entry))) (cells (now (b .entry))) ⌝ }
+{
+    let mut out = [-1i8; 8];
+    let mut q = 0;
+    while q < 8 {
+        out[q] = count::lesser(a[q], b[q]);
+        q += 1;
+    }
+    out
+}
+
+// Whether the mask has the target.
+fn leads(mask: u8, q: usize) -> bool
+    ensures { λ r. ⌜ r ≡ bit mask q ⌝ }
+{
+    if q < 8 {
+        return (mask >> q) & 1 == 1;
+    }
+    false
+}
+
+// The largest count that a letter's edges bring to state q.
+fn arriving(m: &[i8; 8], half: Half, q: usize, k: usize) -> i8
+    requires { ⌜ k ≤ 7 ⌝ }
+    ensures { λ r. ⌜ oneHigher r ≡ largest (half .sources) (λ p. cond (bit (getD (half .masks) p 0) q) (plus k (getD (half .marks) q 0) (cell (now (m .entry)) p)) 0) ⌝ }
+{
+    let mut most = -1i8;
+    if 8 <= q {
+        return most;
+    }
+    let mut p = 0;
+    while p < 8 {
+        if p < half.sources {
+            if leads(half.masks[p], q) {
+                most = count::greater(most, count::plus(m[p], half.marks[q], k));
+            }
+        }
+        p += 1;
+    }
+    most
+}
+
+// The step forward by a letter.
+pub fn forward(m: &[i8; 8], half: Half, k: usize) -> [i8; 8]
+    requires { ⌜ k ≤ 7 ⌝ }
+    ensures { λ r. ⌜ cells r ≡ positionBytes (forwardBy k (halfOf half) (cells (now (m .entry)))) ⌝ }
+{
+    let mut out = [-1i8; 8];
+    let mut q = 0;
+    while q < 8 {
+        if q < half.targets {
+            out[q] = arriving(m, half, q, k);
+        }
+        q += 1;
+    }
+    out
+}
+
+// The least of what the mask's targets leave to their source, and K where there is none.
+fn least(eased: &[i8; 8], mask: u8, targets: usize, k: usize) -> i8
+    requires { ⌜ k ≤ 7 ⌝ }
+    ensures { λ r. ⌜ oneHigher r ≡ smallest (k + 1) targets (λ q. cond (bit mask q) (cell (now (eased .entry)) q) (k + 1)) ⌝ }
+{
+    let mut low = k as i8;
+    let mut q = 0;
+    while q < 8 {
+        if q < targets {
+            if leads(mask, q) {
+                low = count::lesser(low, eased[q]);
+            }
+        }
+        q += 1;
+    }
+    low
+}
+
+// The step back by a letter: the counts less their marks, then the least of them over each source's
+// targets.
+pub fn back(m: &[i8; 8], half: Half, k: usize) -> [i8; 8]
+    requires { ⌜ k ≤ 7 ⌝ }
+    ensures { λ r. ⌜ cells r ≡ positionBytes (backBy k (halfOf half) (cells (now (m .entry)))) ⌝ }
+{
+    let mut eased = [-1i8; 8];
+    let mut q = 0;
+    while q < 8 {
+        eased[q] = count::less(m[q], half.marks[q]);
+        q += 1;
+    }
+    let mut out = [-1i8; 8];
+    let mut p = 0;
+    while p < 8 {
+        if p < half.sources {
+            out[p] = least(&eased, half.masks[p], half.targets, k);
+        }
+        p += 1;
+    }
+    out
+}
+
+// The start position of a side of n states: 0 at each start state.
+pub fn start(starts: u8, n: usize) -> [i8; 8]
+    ensures { λ r. ⌜ cells r ≡ positionBytes (startCounts n starts) ⌝ }
+{
+    let mut out = [-1i8; 8];
+    let mut q = 0;
+    while q < 8 {
+        if q < n {
+            if leads(starts, q) {
+                out[q] = 0;
+            }
+        }
+        q += 1;
+    }
+    out
+}
+
+// Whether two positions have the same counts.
+pub fn same(a: &[i8; 8], b: &[i8; 8]) -> bool
+    ensures { λ r. ⌜ r ≡ (belowAll (cells (now (a .entry))) (cells (now (b .entry))) && belowAll (cells (now (b .entry))) (cells (now (a .entry)))) ⌝ }
+{
+    below(a, b) & below(b, a)
+}
+
+// Whether one position comes before another, ascending as byte strings.
+pub fn before(a: &[i8; 8], b: &[i8; 8]) -> bool
+    ensures { λ r. ⌜ r ≡ beforeBytes (cells (now (a .entry))) (cells (now (b .entry))) ⌝ }
+{
+    let mut q = 0;
+    while q < 8 {
+        let x = count::to_byte(a[q]);
+        let y = count::to_byte(b[q]);
+        if x < y {
+            return true;
+        }
+        if y < x {
+            return false;
+        }
+        q += 1;
+    }
+    false
+}

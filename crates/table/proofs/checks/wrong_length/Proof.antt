@@ -1,0 +1,20 @@
+-- `wrong_length` is its three tests in turn. Assumes nothing.
+use borrow.Author.Tests.{eq-eqb, ne-eqb}
+use Rattle.meaning.specs.Answers.{wrongLength}
+use Rattle.table.proofs.checks.wrong_length.Statement.{statement}
+use Rattle.table.proofs.checks.wrong_length.Tie as tie
+
+returns : tie.Need-returns
+unfolding wrongLength
+returns c = rw (eq-eqb _ _ (c .if1 .taken))
+
+returns-2 : tie.Need-returns-2
+unfolding wrongLength
+returns-2 c = rw (ne-eqb _ _ (c .before .if1 .left), ne-eqb _ _ (c .if2 .taken))
+
+returns-3 : tie.Need-returns-3
+unfolding wrongLength
+returns-3 c = rw (ne-eqb _ _ (c .before .if1 .left), eq-eqb _ _ (c .if2 .left))
+
+pub wrong-length-spec : {M : Type 1} → statement M
+wrong-length-spec = tie.close (tie.spec returns returns-2 returns-3)
