@@ -1,0 +1,16 @@
+-- The laws that the proofs of the functions cite: half a round in masks, the rounds in lists, what is written, and the answer.
+pub mod Written
+pub mod Halves
+pub mod Runs
+pub mod Settled
+pub mod First
+pub mod Stepped
+pub mod Orders
+pub mod Bytes
+pub mod Rows
+pub mod Blocks
+pub mod Finished
+pub mod Listed
+pub mod Stage
+pub mod Solved
+pub mod Demands

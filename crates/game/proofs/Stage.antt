@@ -1,0 +1,128 @@
+-- A call that solves, by the order of its checks, whichever call it is: 2 and 3 before any others, 4 to 10 of a table by the answer of `check`, and 11
+-- and 12 of a stage by how its rounds settled. Each law takes what the code has found to what the definition judges next, so that the outcome is
+-- put together check by check. Assumes nothing.
+use mathlib.Core.Path.{_≡_, sym, ap, _∙_}
+use mathlib.Core.Bool.{true, false, _||_}
+use mathlib.Core.List.{List, _∷_, _++_}
+use Prim.Native.Nat.{ℕ, _*_, _≤_, _<_}
+use native.Mathlib.Omega.{arith}
+use borrow.Author.Tests.{eqb-false, lt-ltb, le-ltb, ltb-false}
+use lib.IntN.{ℤ}
+use lib.ListN.{length}
+use lib.Dec.{eqb, ltb}
+use Rattle.meaning.specs.declared.Answer.{Answer}
+use Rattle.meaning.specs.declared.Refusal.{Refusal}
+use Rattle.meaning.specs.declared.Refusal.the-variants.{Bound, Room, Full}
+use Rattle.meaning.specs.Records.{recordsOf, output, input}
+use Rattle.meaning.specs.Table.{Table, tableOf}
+use Rattle.meaning.specs.Rounds.{Set}
+use Rattle.meaning.specs.Answers.{Check, check, refused, judge, bound, room, tableChecks, stageChecks, Solved, unsolved, solvedFrom}
+use Rattle.meaning.proofs.Tests.{neither-left, neither-right}
+use Rattle.meaning.proofs.Rounds.{FirstSet}
+use Rattle.meaning.proofs.Good.{Good}
+use Rattle.meaning.proofs.Records.{letters-top}
+use Rattle.meaning.proofs.Checks.{Passes, judge-passes, judge-append}
+use Rattle.meaning.proofs.Sound.{passes-sound, passes-good}
+use Rattle.table.specs.declared.Checked.the-variants.{Fails}
+use Rattle.table.specs.Checked.{checkedOf}
+use Rattle.table.proofs.Judged.{byChecked, failedCheck, judge-checked}
+use Rattle.sets.specs.Members.{members}
+use Rattle.sets.proofs.Engine.{Small}
+use Rattle.game.specs.Rounds.{Settles}
+use Rattle.game.specs.Finished.{finished, leaves, Playable, Roomy}
+use Rattle.game.specs.declared.rounds.Settled.{Settled}
+use Rattle.game.specs.declared.rounds.Settled.the-variants.{After, Full as FullAfter}
+use Rattle.game.proofs.First.{passes-small}
+use Rattle.game.proofs.Settled.{full-settled, after-settled}
+use Rattle.game.proofs.Listed.{stage-finished, listed-playable, listed-roomy}
+
+-- checks 2 and 3, before any others
+module _ (K N : ℕ) (win con : List ℕ) (cs : List Check) (grant : Solved) where
+  abbrev pub opened : Solved
+  opened = judge (bound K ∷ room N win con ∷ cs) (unsolved win con) grant
+
+  pub bound-refused : 7 < K → {answer : Answer} → answer ≡ refused (check Bound 0 0 true) → leaves answer win con ≡ opened
+  unfolding bound unsolved
+  bound-refused h e = rw (e, lt-ltb 7 K h)
+
+  pub room-refused : K ≤ 7 → room N win con .failed ≡ true → {answer : Answer} → answer ≡ refused (check Room 0 0 true) → leaves answer win con ≡ opened
+  unfolding bound room unsolved
+  room-refused h p e = rw (e, le-ltb 7 K h, p)
+
+  pub opened-on : K ≤ 7 → room N win con .failed ≡ false → judge cs (unsolved win con) grant ≡ opened
+  unfolding bound
+  opened-on h p = rw (le-ltb 7 K h, p)
+
+-- where 3 passes the room is 1 to 256
+pub room-within : (N : ℕ) (win con : List ℕ) → room N win con .failed ≡ false → (1 ≤ N) × (N ≤ 256)
+unfolding room
+room-within N win con p =
+    let wins = ltb (length win) (8 * N) in
+    let cons = ltb (length con) (32 * N) in
+    let none = neither-left (eqb N 0 || ltb 256 N) wins (neither-left (eqb N 0 || ltb 256 N || wins) cons p) in
+    (omega (arith, eqb-false N 0 (neither-left (eqb N 0) (ltb 256 N) none)), ltb-false 256 N (neither-right (eqb N 0) (ltb 256 N) none))
+
+-- checks 4 to 10 of a table, before any others
+module _ (which : ℕ) (bytes : List ℕ) (win con : List ℕ) (cs : List Check) (grant : Solved) where
+  abbrev pub read : Solved
+  read = judge (tableChecks which bytes ++ cs) (unsolved win con) grant
+
+  pub table-refused : {r : Refusal} {place : ℕ} → checkedOf (tableChecks 0 bytes) ≡ Fails r place → {answer : Answer}
+      → answer ≡ refused (check r place which true) → leaves answer win con ≡ read
+  unfolding unsolved
+  table-refused {r} {place} f e =
+      let rest = judge cs (unsolved win con) grant in
+      ap (λ (answer : Answer). leaves answer win con) e
+      ∙ sym (judge-append (tableChecks which bytes) cs (unsolved win con) grant
+      ∙ judge-checked which bytes (unsolved win con) rest
+      ∙ ap (byChecked (λ (r : Refusal) (p : ℕ). unsolved win con (failedCheck which r p)) rest) f)
+
+  pub read-on : Passes (tableChecks which bytes) → judge cs (unsolved win con) grant ≡ read
+  read-on p =
+      sym (judge-append (tableChecks which bytes) cs (unsolved win con) grant
+      ∙ judge-passes (tableChecks which bytes) (unsolved win con) (judge cs (unsolved win con) grant) p)
+
+-- a table that the rounds may be run on and the rows be written of: it may be played on, with at most eight states a side and eight letters
+pub record Fit (t : Table) : Type 0 where
+  pub small : Small t
+  pub good : Good t
+  pub outputs : t .outputs ≤ 8
+  pub inputs : t .inputs ≤ 8
+
+-- as the table of bytes that pass 4 to 10 is
+pub passes-fit : (which : ℕ) (bytes : List ℕ) → Passes (tableChecks which bytes) → Fit (tableOf (recordsOf bytes))
+unfolding tableOf
+passes-fit which bytes p =
+    let within = passes-sound which bytes p .within in
+    record {
+      small = passes-small which bytes p;
+      good = passes-good which bytes p;
+      outputs = letters-top output (recordsOf bytes) within;
+      inputs = letters-top input (recordsOf bytes) within;
+    }
+
+-- checks 11 and 12 of a stage
+module _ {K : ℕ} {t : Table} {X : Set} {N : ℕ} {out : List (List ℤ)} {settled : Settled} (settles : Settles K t X N out settled) where
+  pub settled-full : settled ≡ FullAfter → (which : ℕ) (win con : List ℕ) (grant : Solved) → {answer : Answer}
+      → answer ≡ refused (check Full 0 which true) → leaves answer win con ≡ judge (stageChecks which K N t X) (unsolved win con) grant
+  unfolding stageChecks unsolved
+  settled-full f which win con grant e = rw (e, full-settled settles f)
+
+  module _ {r n : ℕ} (e : settled ≡ After r n) (fit : Fit t) (first : FirstSet K t X) where
+    -- the list of winners may be finished
+    pub settled-playable : K ≤ 7 → N ≤ 256 → Playable K t (members out n)
+    settled-playable k h =
+        let (_, _, number, list, few) = after-settled settles e in
+        rw list (listed-playable K t X (fit .small) first (fit .good) k (fit .outputs) (fit .inputs) (omega arith))
+
+    module _ (win con : List ℕ) where
+      pub settled-roomy : room N win con .failed ≡ false → Roomy (members out n) win con
+      settled-roomy p =
+          let (_, _, number, list, few) = after-settled settles e in
+          rw list (listed-roomy K t X (fit .small) first win con N p (omega arith))
+
+      -- and that is what is left to judge
+      pub settled-finished : (which : ℕ) → finished K t (members out n) r win con ≡ judge (stageChecks which K N t X) (unsolved win con) (solvedFrom K t X win con)
+      settled-finished which =
+          let (roomy, rounds, _, list, _) = after-settled settles e in
+          rw (list, rounds) (stage-finished K t X (fit .small) first win con which N roomy)

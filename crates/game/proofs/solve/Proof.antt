@@ -1,0 +1,202 @@
+-- `solve` answers with the first check that fails. At the place after the checks 2 to 10 stands one fact: what is left to judge are 11 and 12 of the
+-- one stage. The table that was read states the table of the bytes, so the rounds settle as that stage's do, and finishing them is what is left.
+-- Assumes nothing.
+use mathlib.Core.Path.{_≡_, sym, _∙_}
+use mathlib.Core.Bool.{false}
+use native.Mathlib.Omega.{arith}
+use borrow.Author.Needs.{needs}
+use denote.Ref.{now}
+use Rattle.meaning.specs.Rounds.{allSafe}
+use Rattle.meaning.specs.Answers.{judge, room, tableChecks, stageChecks, unsolved, solvedFrom, solve}
+use Rattle.meaning.proofs.Rounds.{allSafe-first}
+use Rattle.meaning.proofs.Checks.{Passes}
+use Rattle.meaning.proofs.Answers.{stated}
+use Rattle.table.specs.Packed.{tableIn}
+use Rattle.table.proofs.Judged.{passes-none-fails}
+use Rattle.table.proofs.Good.{good-table}
+use Rattle.game.specs.Rounds.{Settles}
+use Rattle.game.proofs.Settled.{after-settled}
+use Rattle.game.proofs.Stage.{room-within, passes-fit, settled-full, settled-playable, settled-roomy, settled-finished}
+use Rattle.game.proofs.Solved.{solve-bound, solve-room, solve-table, solve-stage}
+use Rattle.game.proofs.solve.Statement.{statement}
+use Rattle.game.proofs.solve.Tie as tie
+
+-- 3 passes
+room-passes : (c : tie.Else2) →
+    let given = c .before .before .before .before .before .before .args in
+    room (given .room) (now (given .winners)) (now (given .controller)) .failed ≡ false
+unfolding room
+room-passes c = sym (c .before .small-room .ensures) ∙ c .if2 .left
+
+-- 4 to 10 pass
+table-passes : (c : tie.After-enum-told) → Passes (tableChecks 0 (now (c .before .before .before .before .before .before .before .before .before .args .table)))
+table-passes c =
+    passes-none-fails 0 (now (c .before .before .before .before .before .before .before .before .before .args .table))
+    (sym (c .before .before .check .ensures) ∙ c .enum-told .given .1)
+
+-- so 11 and 12 are left to judge
+stage-left : (c : tie.After-enum-told) →
+    let given = c .before .before .before .before .before .before .before .before .before .args in
+    let t = stated (now (given .table)) in
+    let X = allSafe (given .k) (t .controllers) in
+    solve (now (given .table)) (given .k) (given .room) (now (given .winners)) (now (given .controller))
+    ≡ judge (stageChecks 0 (given .k) (given .room) t X) (unsolved (now (given .winners)) (now (given .controller)))
+    (solvedFrom (given .k) t X (now (given .winners)) (now (given .controller)))
+stage-left c =
+    let passed = c .before .before .before in
+    let given = passed .before .before .before .before .before .before .args in
+    sym (solve-stage (now (given .table)) (given .k) (given .room) (now (given .winners)) (now (given .controller)) (passed .before .before .if1 .left)
+    (room-passes passed) (table-passes c))
+
+-- the table that was read
+same-table : (c : tie.After-read) → tableIn (c .read .result) ≡ stated (now (c .before .before .before .before .before .before .before .before .before .before .args .table))
+same-table c =
+    good-table 0 (now (c .before .before .before .before .before .before .before .before .before .before .args .table)) (c .read .result) (c .read .ensures)
+    (table-passes (c .before))
+
+-- its rounds settle
+stage-settles : (c : tie.After-settle-all) →
+    let given = c .before .before .before .before .before .before .before .before .before .before .before .before .args in
+    let t = stated (now (given .table)) in
+    Settles (given .k) t (allSafe (given .k) (t .controllers)) (given .room) (c .settle-all .last .1 .1 .1 .0) (c .settle-all .result)
+stage-settles c = rw (same-table (c .before .before)) at (c .settle-all .ensures)
+
+refused-requires : tie.Need-refused-requires
+refused-requires c κs = search needs
+
+returns : tie.Need-returns
+returns c =
+    let given = c .before .before .before .before .before .args in
+    solve-bound (now (given .table)) (given .k) (given .room) (now (given .winners)) (now (given .controller)) (c .before .if1 .taken) (c .refused .ensures)
+
+small-room-requires : tie.Need-small-room-requires
+small-room-requires c κs = search needs
+
+refused-requires-2 : tie.Need-refused-requires-2
+refused-requires-2 c κs = search needs
+
+returns-2 : tie.Need-returns-2
+unfolding room
+returns-2 c =
+    let called = c .before .before in
+    let given = called .before .before .before .before .before .args in
+    solve-room (now (given .table)) (given .k) (given .room) (now (given .winners)) (now (given .controller)) (called .before .if1 .left)
+    (sym (called .small-room .ensures) ∙ c .before .if2 .taken) (c .refused2 .ensures)
+
+check-requires : tie.Need-check-requires
+check-requires c κs = search needs
+
+enum-known-checked : tie.Need-enum-known-checked
+enum-known-checked c = search needs
+
+refused-requires-3 : tie.Need-refused-requires-3
+refused-requires-3 c κs = search needs
+
+returns-3 : tie.Need-returns-3
+returns-3 c =
+    let called = c .before .before .before .before in
+    let passed = called .before in
+    let given = passed .before .before .before .before .before .before .args in
+    solve-table (now (given .table)) (given .k) (given .room) (now (given .winners)) (now (given .controller)) (passed .before .before .if1 .left)
+    (room-passes passed) (sym (called .check .ensures) ∙ c .before .before .checked .given .1) (c .refused3 .ensures)
+
+enum-told : tie.Need-enum-told
+enum-told c = search needs
+
+read-requires : tie.Need-read-requires
+read-requires c κs = search needs
+
+slice-aggregate-settle-all : tie.Need-slice-aggregate-settle-all
+slice-aggregate-settle-all c = search needs
+
+settle-all-requires : tie.Need-settle-all-requires
+settle-all-requires c κs =
+    let told = c .before .before in
+    let passed = told .before .before .before in
+    let given = passed .before .before .before .before .before .before .args in
+    let fit = passes-fit 0 (now (given .table)) (table-passes told) in
+    let within = room-within (given .room) (now (given .winners)) (now (given .controller)) (room-passes passed) in
+    (passed .before .before .if1 .left, within .0, within .1, within .1, rw (same-table (c .before)) (fit .small), rw (same-table (c .before)) (fit .good .some-output))
+
+enum-known-settled : tie.Need-enum-known-settled
+enum-known-settled c = search needs
+
+enum-told-2 : tie.Need-enum-told-2
+enum-told-2 c = search needs
+
+refused-requires-4 : tie.Need-refused-requires-4
+refused-requires-4 c κs = search needs
+
+returns-4 : tie.Need-returns-4
+returns-4 c =
+    let called = c .before .before .before .before in
+    let told = called .before .before .before in
+    let given = told .before .before .before .before .before .before .before .before .before .args in
+    settled-full (stage-settles called) (c .before .enum-told2 .given .1) 0 (now (given .winners)) (now (given .controller)) _ (c .refused4 .ensures)
+    ∙ sym (stage-left told)
+
+slice-aggregate-finish : tie.Need-slice-aggregate-finish
+slice-aggregate-finish c = search needs
+
+finish-requires : tie.Need-finish-requires
+finish-requires c κs =
+    let settled = c .before .before .before .before in
+    let called = settled .before .before .before in
+    let told = called .before .before .before in
+    let passed = told .before .before .before in
+    let given = passed .before .before .before .before .before .before .args in
+    let t = stated (now (given .table)) in
+    let fit = passes-fit 0 (now (given .table)) (table-passes told) in
+    let within = room-within (given .room) (now (given .winners)) (now (given .controller)) (room-passes passed) in
+    let first = allSafe-first (given .k) t in (
+      omega (arith, after-settled (stage-settles called) (settled .settled .given .1) .4, within .1, called .settle-all .kept .1 .1 .1 .0),
+      rw (same-table (called .before .before)) (settled-playable (stage-settles called) (settled .settled .given .1) fit first (passed .before .before .if1 .left) (within .1)),
+      settled-roomy (stage-settles called) (settled .settled .given .1) fit first (now (given .winners)) (now (given .controller)) (room-passes passed),
+    )
+
+same-length : tie.Need-same-length
+same-length c = search needs
+
+same-length-2 : tie.Need-same-length-2
+same-length-2 c = search needs
+
+returns-5 : tie.Need-returns-5
+returns-5 c =
+    let finished = c .before .before .before .before in
+    let settled = finished .before .before .before .before .before in
+    let called = settled .before .before .before in
+    let told = called .before .before .before in
+    let passed = told .before .before .before in
+    let given = passed .before .before .before .before .before .before .args in
+    let t = stated (now (given .table)) in
+    let fit = passes-fit 0 (now (given .table)) (table-passes told) in
+    (rw (same-table (called .before .before)) at (finished .finish .ensures))
+    ∙ settled-finished (stage-settles called) (settled .settled .given .1) fit (allSafe-first (given .k) t) (now (given .winners)) (now (given .controller)) 0
+    ∙ sym (stage-left told)
+
+pub solve-spec : {M : Type 1} → statement M
+solve-spec =
+    tie.close
+    (tie.spec
+    refused-requires
+    returns
+    small-room-requires
+    refused-requires-2
+    returns-2
+    check-requires
+    enum-known-checked
+    refused-requires-3
+    returns-3
+    enum-told
+    read-requires
+    slice-aggregate-settle-all
+    settle-all-requires
+    enum-known-settled
+    enum-told-2
+    refused-requires-4
+    returns-4
+    slice-aggregate-finish
+    finish-requires
+    same-length
+    same-length-2
+    returns-5)

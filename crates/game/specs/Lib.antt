@@ -1,0 +1,3 @@
+-- How the rounds, the winners and the rows stand in code.
+pub mod Rounds
+pub mod Finished

@@ -1,0 +1,65 @@
+// From the settled list to the answer. Nothing can be refused any more once a byte is written.
+use crate::write;
+use counts::position;
+use meaning::Answer;
+use meaning::Refusal;
+use meaning::Verdict;
+use table::Table;
+ghost use mathlib.Core.Path.{_≡_};
+ghost use mathlib.Core.Bool.{true};
+ghost use Prim.Native.Nat.{_≤_};
+ghost use lib.ListN.{length};
+ghost use Rattle.meaning.specs.Answers.{check, refused as refusedBy};
+ghost use Rattle.table.specs.Packed.{tableIn};
+ghost use Rattle.sets.specs.Members.{members};
+ghost use Rattle.game.specs.Finished.{finished, leaves, Playable, Roomy};
+
+// A refusal's answer: rounds, winners and start are 0.
+pub fn refused(refusal: Refusal, place: usize, which: usize) -> Answer
+    ensures { λ r. ⌜ r ≡ refusedBy (check refusal place which true) ⌝ }
+{
+    Answer {
+        verdict: Verdict::Refused(refusal),
+        place,
+        which,
+        rounds: 0,
+        winners: 0,
+    }
+}
+
+// The answer of a settled list, with the winners written, and the rows if the start position wins.
+pub fn finish(
+    table: Table,
+    k: usize,
+    list: &[[i8; 8]],
+    n: usize,
+    rounds: usize,
+    winners: &mut [u8],
+    controller: &mut [u8],
+) -> Answer
+    requires { ⌜ (n ≤ length (now list)) × Playable k (tableIn table) (members (now list) n) × Roomy (members (now list) n) (now winners) (now controller) ⌝ }
+    ensures { λ r. ⌜ leaves r (now (winners .exit)) (now (controller .exit)) ≡ finished k (tableIn table) (members (now (list .entry)) n) rounds (now (winners .entry)) (now (controller .entry)) ⌝ }
+{
+    if n == 0 {
+        return refused(Refusal::Nothing, 0, 0);
+    }
+    write::write_winners(list, n, winners);
+    let start = write::covering(list, n, &position::start(table.starts, table.controllers));
+    if n <= start {
+        return Answer {
+            verdict: Verdict::Unrealizable,
+            place: 0,
+            which: 0,
+            rounds,
+            winners: n,
+        };
+    }
+    write::write_rows(table, k, list, n, start, controller);
+    Answer {
+        verdict: Verdict::Realizable(start),
+        place: 0,
+        which: 0,
+        rounds,
+        winners: n,
+    }
+}

@@ -1,0 +1,61 @@
+// The game: the rounds, the verdict, the winners and the controller's rows.
+pub mod finish;
+pub mod half;
+pub mod rounds;
+pub mod write;
+
+use meaning::Answer;
+use meaning::Refusal;
+use rounds::Settled;
+use table::Checked;
+use table::checks;
+use table::read;
+ghost use mathlib.Core.Path.{_≡_};
+ghost use mathlib.Core.Bool.{_||_};
+ghost use Prim.Native.Nat.{_*_};
+ghost use lib.Dec.{eqb, ltb};
+ghost use Rattle.meaning.specs.Answers.{solve as solveOf};
+ghost use Rattle.game.specs.Finished.{leaves};
+
+// Solves a table for the patience count k, with room for so many positions: the winners, the
+// controller's rows and the answer.
+pub fn solve(
+    table: &[u8],
+    k: usize,
+    room: usize,
+    winners: &mut [u8],
+    controller: &mut [u8],
+) -> Answer
+    ensures { λ r. ⌜ leaves r (now (winners .exit)) (now (controller .exit)) ≡ solveOf (now (table .entry)) k room (now (winners .entry)) (now (controller .entry)) ⌝ }
+{
+    if 7 < k {
+        return finish::refused(Refusal::Bound, 0, 0);
+    }
+    if small_room(room, winners.len(), controller.len()) {
+        return finish::refused(Refusal::Room, 0, 0);
+    }
+    let checked = checks::check(table);
+    if let Checked::Fails(refusal, place) = checked {
+        return finish::refused(refusal, place, 0);
+    }
+    let table = read::read(table);
+    let mut list = [[-1i8; 8]; 256];
+    let settled = rounds::settle_all(table, k, room, &mut list);
+    let Settled::After(rounds, n) = settled else {
+        return finish::refused(Refusal::Full, 0, 0);
+    };
+    finish::finish(table, k, &list, n, rounds, winners, controller)
+}
+
+// 3: a room not 1 to 256, or a winners or controller buffer of too few bytes for it.
+pub fn small_room(room: usize, winners: usize, controller: usize) -> bool
+    ensures { λ r. ⌜ r ≡ (eqb room 0 || ltb 256 room || ltb winners (8 * room) || ltb controller (32 * room)) ⌝ }
+{
+    if room == 0 {
+        return true;
+    }
+    if 256 < room {
+        return true;
+    }
+    winners < 8 * room || controller < 32 * room
+}

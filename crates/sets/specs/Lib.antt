@@ -1,0 +1,5 @@
+-- What the contracts of this crate cite beside the definitions of `meaning` and `counts`.
+pub mod Tops
+pub mod Engine
+pub mod Members
+pub mod Climb
