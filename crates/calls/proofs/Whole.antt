@@ -1,0 +1,221 @@
+-- Nothing of an answer is lost in its bytes: four bytes hold a number below 2 ^ 32, and every field of an answer of the three calls is one. A code is at
+-- most 14, a place at most 4,160, which at most 2, rounds at most 9 ^ 8, and there are at most 256 winners. Assumes nothing.
+use mathlib.Core.Path.{_≡_, refl, sym, ap, ap₂, _∙_}
+use mathlib.Core.Bool.{Bool, true, false, cond, not, _||_}
+use mathlib.Core.List.{List, [], _∷_, _++_, flatMap}
+use Prim.Native.Nat.{ℕ, _+_, _*_, _/_, _%_, _^_, _≤_, _<_, zero-le}
+use native.Mathlib.Nat.{div-div-eq-div-mul}
+use native.Mathlib.Omega.{arith}
+use borrow.Author.Tests.{ltb-true, ltb-false, le-ltb}
+use lib.Dec.{eqb, ltb, lit<, lit≤}
+use lib.ListN.{length, take, drop}
+use lib.Seq.{take-at}
+use Rattle.meaning.specs.declared.Answer.{Answer}
+use Rattle.meaning.specs.declared.Verdict.the-variants.{Realizable, Unrealizable, Refused}
+use Rattle.meaning.specs.Lists.{place, written}
+use Rattle.meaning.specs.Records.{Record, recordsOf, controller, outside}
+use Rattle.meaning.specs.Table.{Table, tableOf}
+use Rattle.meaning.specs.Rounds.{Set, allSafe, rounds, full}
+use Rattle.meaning.specs.Written.{winners, startState}
+use Rattle.meaning.specs.Join.{joined, pairs}
+use Rattle.meaning.specs.Answers.{startOf, Check, refused, judge, bound, room, roomToJoin, wrongLength, descent, dangling, tableChecks, stageChecks}
+use Rattle.meaning.specs.Answers.{Solved, unsolved, solvedFrom, solveChecks, solve, pairChecks, otherLetters, tooLarge, Joined, joinChecks, join, partsChecks, parts}
+use Rattle.meaning.proofs.Tests.{neither-right, first-le, cond-cases}
+use Rattle.meaning.proofs.Checks.{Passes, passes-at, passes-right}
+use Rattle.meaning.proofs.Answers.{joinedBytes, unjoined, joinedInto, solve-passes, parts-passes}
+use Rattle.meaning.proofs.Sound.{Sound, states-top, passes-sound, passes-paired}
+use Rattle.meaning.proofs.Buffers.{winners-number}
+use Rattle.meaning.proofs.JoinGood.{joined-length, joined-sound}
+use Rattle.table.proofs.Records.{records-count}
+use Rattle.game.proofs.Settled.{rounds-few}
+use Rattle.game.proofs.Stage.{room-within}
+use Rattle.calls.specs.Called.{fields, fourBytes, answerBytes, calledSolved, calledSolve, calledParts, calledJoin}
+use Rattle.calls.proofs.Laid.{four-length}
+use Rattle.calls.proofs.Called.{code-most}
+
+-- what bytes say, four by four, low byte first
+abbrev pub numbersIn : List ℕ → List ℕ
+numbersIn [] = []
+numbersIn (a ∷ []) = []
+numbersIn (a ∷ b ∷ []) = []
+numbersIn (a ∷ b ∷ c ∷ []) = []
+numbersIn (a ∷ b ∷ c ∷ d ∷ rest) = (a + 256 * b + 65536 * c + 16777216 * d) ∷ numbersIn rest
+
+-- each number is below 2 ^ 32
+abbrev pub Fit : List ℕ → Type 0
+Fit [] = Unit {0}
+Fit (x ∷ xs) = (x < 4294967296) × Fit xs
+
+four-told : (x : ℕ) → x < 4294967296 → x % 256 + 256 * (x / 256 % 256) + 65536 * (x / 65536 % 256) + 16777216 * (x / 16777216 % 256) ≡ x
+four-told x h =
+    let third : x / 65536 ≡ x / 256 / 256 = sym (div-div-eq-div-mul x 256 256) in
+    let fourth : x / 16777216 ≡ x / 256 / 256 / 256 = sym (div-div-eq-div-mul (x / 256) 256 256 ∙ div-div-eq-div-mul x 256 65536) in
+    rw (third, fourth) (go x h)
+  where
+    go : (x : ℕ) → x < 4294967296 → x % 256 + 256 * (x / 256 % 256) + 65536 * (x / 256 / 256 % 256) + 16777216 * (x / 256 / 256 / 256 % 256) ≡ x
+    go x h = omega arith
+
+pub numbers-told : (xs : List ℕ) → Fit xs → numbersIn (flatMap fourBytes xs) ≡ xs
+unfolding flatMap fourBytes
+numbers-told [] fit = refl
+numbers-told (x ∷ xs) fit = ap₂ (λ (y : ℕ) (ys : List ℕ). y ∷ ys) (four-told x (fit .0)) (numbers-told xs (fit .1))
+
+-- what holds of the first check that fails, whichever it is
+abbrev Each : (Check → Type 0) → List Check → Type 0
+Each P [] = Unit {0}
+Each P (c ∷ cs) = (c .failed ≡ true → P c) × (c .failed ≡ false → Each P cs)
+
+each-append : (P : Check → Type 0) (cs ds : List Check) → Each P cs → Each P ds → Each P (cs ++ ds)
+each-append P [] ds p q = q
+each-append P (c ∷ cs) ds p q = (p .0, λ f. each-append P cs ds (p .1 f) q)
+
+-- an answer's place and which are few
+abbrev Few : Check → Type 0
+Few c = (c .faultAt ≤ 4160) × (c .table ≤ 2)
+
+table-few : (which : ℕ) (bytes : List ℕ) → which ≤ 2 → Each Few (tableChecks which bytes)
+unfolding tableChecks wrongLength
+table-few which bytes w =
+    let rs = recordsOf bytes in
+    let ragged = eqb (length bytes) 0 || not (eqb (length bytes % 4) 0) in
+    let none : (0 ≤ 4160) × (which ≤ 2) = (zero-le, w) in (
+      λ _. none,
+      λ sized.
+          let size = ltb-false 4160 (length bytes) (neither-right ragged (ltb 4160 (length bytes)) sized) in
+          let number : length rs ≤ 4160 = omega (arith, records-count bytes) in
+          let at : (i : ℕ) → ltb i (length rs) ≡ true → (i ≤ 4160) × (which ≤ 2) = λ i f. (omega (arith, ltb-true i (length rs) f), w) in
+          (at (place outside rs), λ _. (at (descent rs), λ _. (λ _. none, λ _. (λ _. none, λ _. (at (place (dangling (tableOf rs)) rs), λ _. (λ _. none, λ _. tt)))))),
+    )
+
+stage-few : (which K N : ℕ) (t : Table) (X : Set) → which ≤ 2 → Each Few (stageChecks which K N t X)
+unfolding stageChecks
+stage-few which K N t X w = (λ _. (zero-le, w), λ _. (λ _. (zero-le, zero-le), λ _. tt))
+
+pair-few : (one two : List ℕ) → Each Few (pairChecks one two)
+unfolding pairChecks otherLetters tooLarge
+pair-few one two =
+    each-append Few (tableChecks 1 one ++ tableChecks 2 two) _
+    (each-append Few (tableChecks 1 one) (tableChecks 2 two) (table-few 1 one (lit≤ tt)) (table-few 2 two (lit≤ tt)))
+    (λ _. (zero-le, zero-le), λ _. (λ _. (zero-le, zero-le), λ _. tt))
+
+-- the fields of a refusal, and of whatever a list of checks comes to
+refused-fits : (c : Check) → Few c → Fit (fields (refused c))
+unfolding fields refused
+refused-fits c few =
+    (omega (arith, code-most (Refused (c .refusal))), (omega (arith, few .0), (omega (arith, few .1), (lit< tt, (lit< tt, (lit< tt, tt))))))
+
+judged-fits : {A : Type 0} (answer : A → Answer) (refuse : Check → A) (grant : A) → ((c : Check) → answer (refuse c) ≡ refused c)
+    → (cs : List Check) → Each Few cs → (Passes cs → Fit (fields (answer grant))) → Fit (fields (answer (judge cs refuse grant)))
+judged-fits answer refuse grant same [] few granted = granted refl
+judged-fits answer refuse grant same (c ∷ cs) few granted =
+    cond-cases (c .failed) (refuse c) (judge cs refuse grant) (λ o. Fit (fields (answer o))) (λ t. rw (same c) (refused-fits c (few .0 t)))
+    (λ f. judged-fits answer refuse grant same cs (few .1 f) (λ p. granted (rw f p)))
+
+-- and of a call that solves
+start-fits : (won : Bool) (s number : ℕ) → (won ≡ true → s < number) → number ≤ 256 → startOf (cond won (Realizable s) Unrealizable) < 4294967296
+start-fits true s number h n = omega (arith, h refl)
+start-fits false s number h n = lit< tt
+
+rounds-le : (K : ℕ) (t : Table) (X : Set) → rounds K t X ≤ (K + 2) ^ t .controllers
+unfolding rounds
+rounds-le K t X = first-le ((K + 2) ^ t .controllers) _
+
+solved-fits : (K N : ℕ) (t : Table) (X : Set) (win con : List ℕ) → K ≤ 7 → t .controllers ≤ 8 → N ≤ 256 → full K t X N ≡ false
+    → Fit (fields (solvedFrom K t X win con .answer))
+unfolding fields solvedFrom
+solved-fits K N t X win con patient few within spare =
+    let ws = winners K t X in
+    let s = startState t ws in
+    let won = ltb s (length ws) in
+    let number : length ws ≤ 256 = omega (arith, winners-number K N t X spare) in (
+      omega (arith, code-most (cond won (Realizable s) Unrealizable)),
+      (
+        lit< tt,
+        (
+          lit< tt,
+          (
+            omega (arith, rounds-le K t X, rounds-few K (t .controllers) patient few),
+            (omega arith, (start-fits won s (length ws) (ltb-true s (length ws)) number, tt)),
+          ),
+        ),
+      ),
+    )
+
+-- the records of a table that passes have at most 8 states a side
+sound-few : (rs : List Record) → Sound rs → tableOf rs .controllers ≤ 8
+unfolding tableOf
+sound-few rs s = states-top controller rs (s .within) (s .controllers)
+
+-- so the fields of each call's answer fit
+solve-fits : (bytes : List ℕ) (K N : ℕ) (win con : List ℕ) → Fit (fields (solve bytes K N win con .answer))
+unfolding solve solveChecks unsolved bound room stageChecks
+solve-fits bytes K N win con =
+    let rs = recordsOf bytes in
+    let t = tableOf rs in
+    let X = allSafe K (t .controllers) in
+    let none : Few (bound K) = (zero-le, zero-le) in
+    judged-fits (λ (s : Solved). s .answer) (unsolved win con) (solvedFrom K t X win con) (λ c. refl) (solveChecks bytes K N win con)
+    (λ _. none, λ _. (λ _. none, λ _. each-append Few (tableChecks 0 bytes) (stageChecks 0 K N t X) (table-few 0 bytes zero-le) (stage-few 0 K N t X zero-le)))
+    (λ p.
+    let q = solve-passes bytes K N win con p in
+    solved-fits K N t X win con (ltb-false 7 K (q .in-bound)) (sound-few rs (passes-sound 0 bytes (q .table))) (room-within N win con (q .roomy) .1)
+    (passes-at (stageChecks 0 K N t X) (q .stage) 0 (bound 0) (lit< tt)))
+
+parts-fits : (one two : List ℕ) (K N : ℕ) (win con : List ℕ) → Fit (fields (parts one two K N win con .answer))
+unfolding parts partsChecks unsolved bound room stageChecks
+parts-fits one two K N win con =
+    let t = tableOf (recordsOf one) in
+    let u = tableOf (recordsOf two) in
+    let rs = joined (recordsOf one) (recordsOf two) in
+    let both = tableOf rs in
+    let X = pairs K t u in
+    let none : Few (bound K) = (zero-le, zero-le) in
+    let stage = stageChecks 1 K N t (allSafe K (t .controllers)) in
+    let next = stageChecks 2 K N u (allSafe K (u .controllers)) in
+    judged-fits (λ (s : Solved). s .answer) (unsolved win con) (solvedFrom K both X win con) (λ c. refl) (partsChecks one two K N win con) (
+      λ _. none,
+      λ _. (
+        λ _. none,
+        λ _. each-append Few (pairChecks one two ++ stage ++ next) _
+            (each-append Few (pairChecks one two ++ stage) next
+            (each-append Few (pairChecks one two) stage (pair-few one two) (stage-few 1 K N t (allSafe K (t .controllers)) (lit≤ tt)))
+            (stage-few 2 K N u (allSafe K (u .controllers)) (lit≤ tt)))
+            (λ _. none, λ _. stage-few 0 K N both X zero-le),
+      ),
+    )
+    (λ p.
+    let q = parts-passes one two K N win con p in
+    solved-fits K N both X win con (ltb-false 7 K (q .in-bound)) (sound-few rs (joined-sound (recordsOf one) (recordsOf two) (passes-paired one two (q .pair))))
+    (room-within N win con (q .roomy) .1) (passes-at (stageChecks 0 K N both X) (q .last-stage) 0 (bound 0) (lit< tt)))
+
+join-fits : (one two out : List ℕ) → Fit (fields (join one two out .answer))
+unfolding join joinChecks roomToJoin fields wrongLength
+join-fits one two out =
+    let new = joinedBytes one two in
+    judged-fits (λ (j : Joined). j .answer) (unjoined out) (joinedInto new out) (λ c. refl) (joinChecks one two out)
+    (λ _. (zero-le, zero-le), λ _. pair-few one two)
+    (λ p.
+    let pair = passes-paired one two (passes-right (roomToJoin out ∷ []) (pairChecks one two) p) in
+    let ragged = eqb (length new) 0 || not (eqb (length new % 4) 0) in
+    let size = ltb-false 4160 (length new) (neither-right ragged (ltb 4160 (length new)) (joined-length (recordsOf one) (recordsOf two) pair)) in
+    (lit< tt, (omega arith, (lit< tt, (lit< tt, (lit< tt, (lit< tt, tt)))))))
+
+-- "six fields of four bytes, low byte first": the first 24 bytes of the answer's buffer say the whole answer
+said : (a : Answer) (ans : List ℕ) → Fit (fields a) → numbersIn (take 24 (written (answerBytes a) ans)) ≡ fields a
+unfolding answerBytes fields
+said a ans fit = ap numbersIn (take-at (answerBytes a) (drop (length (answerBytes a)) ans) 24 (four-length (fields a))) ∙ numbers-told (fields a) fit
+
+module _ (ans : List ℕ) (long : 24 ≤ length ans) where
+  pub solve-said : (table : List ℕ) (K N : ℕ) (win con : List ℕ)
+      → numbersIn (take 24 (calledSolve table K N win con ans .answerAfter)) ≡ fields (solve table K N win con .answer)
+  unfolding calledSolve calledSolved
+  solve-said table K N win con = rw (le-ltb (length ans) 24 long) (said (solve table K N win con .answer) ans (solve-fits table K N win con))
+
+  pub parts-said : (one two : List ℕ) (K N : ℕ) (win con : List ℕ)
+      → numbersIn (take 24 (calledParts one two K N win con ans .answerAfter)) ≡ fields (parts one two K N win con .answer)
+  unfolding calledParts calledSolved
+  parts-said one two K N win con = rw (le-ltb (length ans) 24 long) (said (parts one two K N win con .answer) ans (parts-fits one two K N win con))
+
+  pub join-said : (one two out : List ℕ) → numbersIn (take 24 (calledJoin one two out ans .answerAfter)) ≡ fields (join one two out .answer)
+  unfolding calledJoin
+  join-said one two out = rw (le-ltb (length ans) 24 long) (said (join one two out .answer) ans (join-fits one two out))

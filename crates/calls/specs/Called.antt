@@ -1,0 +1,69 @@
+-- The public calls: an answer's bytes, and for each call its whole outcome, the result and every lent buffer's bytes afterwards.
+use mathlib.Core.Bool.{cond}
+use mathlib.Core.List.{List, [], _∷_, flatMap}
+use Prim.Native.Nat.{ℕ, _/_, _%_}
+use lib.ListN.{length}
+use lib.Dec.{ltb}
+use Rattle.meaning.specs.declared.Answer.{Answer}
+use Rattle.meaning.specs.declared.Refusal.the-variants.{Bound, Room}
+use Rattle.meaning.specs.Lists.{written}
+use Rattle.meaning.specs.Answers.{numberOf, codeOf, startOf, Solved, solve, join, parts}
+
+-- "Every answer carries a code, a place, which .., rounds, number of winners, start."
+unfoldable pub fields : Answer → List ℕ
+fields a = codeOf (a .verdict) ∷ a .place ∷ a .which ∷ a .rounds ∷ a .winners ∷ startOf (a .verdict) ∷ []
+
+-- a field's four bytes, low byte first
+unfoldable pub fourBytes : ℕ → List ℕ
+fourBytes x = x % 256 ∷ x / 256 % 256 ∷ x / 65536 % 256 ∷ x / 16777216 % 256 ∷ []
+
+-- six fields of four bytes
+unfoldable pub answerBytes : Answer → List ℕ
+answerBytes a = flatMap fourBytes (fields a)
+
+-- they are laid down where there is room for them
+unfoldable pub reported : Answer → List ℕ → List ℕ
+reported a ans = cond (ltb (length ans) 24) ans (written (answerBytes a) ans)
+
+-- What a call that solves leaves: its result, and the bytes of the winners', the controller's and the answer's buffers afterwards
+pub record Called : Type 0 where
+  pub result : ℕ
+  pub winnersAfter : List ℕ
+  pub controllerAfter : List ℕ
+  pub answerAfter : List ℕ
+
+abbrev pub called : ℕ → List ℕ → List ℕ → List ℕ → Called
+called result win con ans = record { result = result; winnersAfter = win; controllerAfter = con; answerAfter = ans }
+
+-- "an answer buffer under 24 bytes is itself refused with 3, checked together with the other room of 3": so 2 comes before it
+abbrev pub unanswered : ℕ → ℕ
+unanswered K = cond (ltb 7 K) (numberOf Bound) (numberOf Room)
+
+-- and then nothing at all is written. Otherwise the result is the code, the two other buffers are as solving leaves them, and the answer is
+-- laid down, for refusals too.
+unfoldable pub calledSolved : ℕ → List ℕ → List ℕ → List ℕ → Solved → Called
+calledSolved K win con ans s =
+    cond (ltb (length ans) 24) (called (unanswered K) win con ans)
+    (called (codeOf (s .answer .verdict)) (s .winnersAfter) (s .controllerAfter) (written (answerBytes (s .answer)) ans))
+
+unfoldable pub calledSolve : List ℕ → ℕ → ℕ → List ℕ → List ℕ → List ℕ → Called
+calledSolve table K N win con ans = calledSolved K win con ans (solve table K N win con)
+
+unfoldable pub calledParts : List ℕ → List ℕ → ℕ → ℕ → List ℕ → List ℕ → List ℕ → Called
+calledParts one two K N win con ans = calledSolved K win con ans (parts one two K N win con)
+
+-- What a call that joins leaves: its result, and the bytes of the output's and the answer's buffers afterwards
+pub record CalledJoin : Type 0 where
+  pub result : ℕ
+  pub outAfter : List ℕ
+  pub answerAfter : List ℕ
+
+abbrev pub joins : ℕ → List ℕ → List ℕ → CalledJoin
+joins result out ans = record { result = result; outAfter = out; answerAfter = ans }
+
+-- the same for a join, where 2 does not arise
+unfoldable pub calledJoin : List ℕ → List ℕ → List ℕ → List ℕ → CalledJoin
+calledJoin one two out ans =
+    let j = join one two out in
+    cond (ltb (length ans) 24) (joins (numberOf Room) out ans)
+    (joins (codeOf (j .answer .verdict)) (j .outAfter) (written (answerBytes (j .answer)) ans))

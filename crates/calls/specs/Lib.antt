@@ -1,0 +1,2 @@
+-- What the public calls leave.
+pub mod Called

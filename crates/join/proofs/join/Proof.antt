@@ -1,0 +1,89 @@
+-- `join` answers as the meaning does: with too little room it refuses; else it goes by what the checks of the two tables come to, and writes
+-- only where they pass. Assumes nothing.
+use mathlib.Core.Path.{_≡_, refl, sym, _∙_}
+use mathlib.Core.Bool.{true}
+use mathlib.Core.List.{List}
+use Prim.Native.Nat.{ℕ, _≤_, _<_}
+use borrow.Author.Needs.{needs}
+use borrow.Author.Tests.{lt-ltb, le-ltb}
+use denote.Ref.{now}
+use lib.ListN.{length}
+use Rattle.meaning.specs.declared.Refusal.the-variants.{Room}
+use Rattle.meaning.specs.Answers.{check, roomToJoin, pairChecks, joinChecks, join}
+use Rattle.meaning.proofs.Answers.{unjoined, joinedInto}
+use Rattle.join.specs.declared.pair.Paired.{Paired}
+use Rattle.join.specs.Joined.{pairedOf, joinedBytes}
+use Rattle.join.proofs.Paired.{byPaired, judge-paired}
+use Rattle.join.proofs.join.Statement.{statement}
+use Rattle.join.proofs.join.Tie as tie
+
+module _ (one two out : List ℕ) where
+  cramped : length out < 4160 → join one two out ≡ unjoined out (check Room 0 0 true)
+  unfolding join joinChecks roomToJoin
+  cramped h = rw (lt-ltb (length out) 4160 h)
+
+  roomy : 4160 ≤ length out → (p : Paired) → p ≡ pairedOf (pairChecks one two)
+      → join one two out ≡ byPaired (λ r p w. unjoined out (check r p w true)) (joinedInto (joinedBytes one two) out) p
+  unfolding join joinChecks roomToJoin
+  roomy h p e = rw (le-ltb (length out) 4160 h, e) (judge-paired (pairChecks one two) (unjoined out) (joinedInto (joinedBytes one two) out))
+
+refused-requires : tie.Need-refused-requires
+refused-requires c κs = search needs
+
+returns : tie.Need-returns
+returns c =
+    let args = c .before .before .before .before .before .args in
+    rw (cramped (now (args .first)) (now (args .second)) (now (args .out)) (c .before .if1 .taken)) (c .refused .ensures, refl)
+
+pair-requires : tie.Need-pair-requires
+pair-requires c κs = search needs
+
+enum-known-refusal : tie.Need-enum-known-refusal
+enum-known-refusal c = search needs
+
+refused-requires-2 : tie.Need-refused-requires-2
+refused-requires-2 c κs = search needs
+
+enum-told : tie.Need-enum-told
+enum-told c = search needs
+
+write-requires : tie.Need-write-requires
+write-requires c κs =
+    let call = c .before .before .before in
+    (sym (call .pair .ensures) ∙ c .before .enum-told .given .1, call .before .if1 .left)
+
+returns-2 : tie.Need-returns-2
+returns-2 c =
+    let told = c .before .before in
+    let call = told .before .before in
+    let args = call .before .before .before .before .before .args in
+    let fails = sym (told .refusal .given .1) ∙ call .pair .ensures in
+    rw (roomy (now (args .first)) (now (args .second)) (now (args .out)) (call .before .if1 .left) _ fails) (c .refused2 .ensures, refl)
+
+same-length : tie.Need-same-length
+same-length c = search needs
+
+returns-3 : tie.Need-returns-3
+returns-3 c =
+    let write = c .before .before in
+    let told = write .before .before in
+    let call = told .before .before in
+    let args = call .before .before .before .before .before .args in
+    let passes = sym (told .enum-told .given .1) ∙ call .pair .ensures in
+    rw (roomy (now (args .first)) (now (args .second)) (now (args .out)) (call .before .if1 .left) _ passes, write .write .ensures .0)
+    (refl, write .write .ensures .1)
+
+pub join-spec : {M : Type 1} → statement M
+join-spec =
+    tie.close
+    (tie.spec
+    refused-requires
+    returns
+    pair-requires
+    enum-known-refusal
+    refused-requires-2
+    enum-told
+    write-requires
+    returns-2
+    same-length
+    returns-3)

@@ -1,0 +1,28 @@
+-- What the checks of two tables come to, and the bytes of a join.
+use mathlib.Core.Path.{_≡_}
+use mathlib.Core.List.{List, map}
+use Prim.Native.Nat.{ℕ, _+_}
+use lib.ListN.{length}
+use lib.Seq.{sets}
+use Rattle.meaning.specs.Records.{Record, recordsOf, bytesOf, ofKind}
+use Rattle.meaning.specs.Join.{renumber, joined}
+use Rattle.meaning.specs.Answers.{Check, judge}
+use Rattle.join.specs.declared.pair.Paired.{Paired}
+use Rattle.join.specs.declared.pair.Paired.the-variants.{Passes, Fails}
+
+-- "Checks run in this order": the refusal of the first that fails, its place and which, or none
+abbrev pub pairedOf : List Check → Paired
+pairedOf cs = judge cs (λ c. Fails (c .refusal) (c .faultAt) (c .table)) Passes
+
+-- the bytes of the joined table
+abbrev pub joinedBytes : List ℕ → List ℕ → List ℕ
+joinedBytes one two = bytesOf (joined (recordsOf one) (recordsOf two))
+
+-- the bytes of the records of one kind, controllers renumbered upward by n and worlds by m
+abbrev pub movedBytes : ℕ → ℕ → ℕ → List Record → List ℕ
+movedBytes n m kind rs = bytesOf (map (renumber n m) (ofKind kind rs))
+
+-- bytes stored from a place on: the place where they end, and what stands there afterwards
+pub record Stored (old : List ℕ) (start : ℕ) (new after : List ℕ) (end : ℕ) : Type 0 where
+  pub ends : end ≡ start + length new
+  pub bytes : after ≡ sets old start new
