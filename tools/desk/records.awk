@@ -1,0 +1,22 @@
+# Reads a table written as text. Prints each record as the number of its line and its four digits, blanks between.
+# The first line that is neither a record, a comment nor blank is told on standard error, and the exit status is 1.
+
+function refuse(why) {
+    gsub(/[^ -~]/, "?", line)    # what a screen can't show, or might obey
+    printf "Line %d of %s %s:\n    %s\n", NR, ENVIRON["file"], why, line > "/dev/stderr"
+    exit 1
+}
+
+{
+    sub(/\r$/, "")               # how some editors end a line
+    gsub(/\t/, " ")
+    line = $0
+    if (/[^ -~]/) refuse("has a character that is not plain text")
+    sub(/#.*/, "")
+    gsub(/ /, "")
+    if ($0 == "") next
+    if (/[^0-9]/) refuse("has something other than digits in its record")
+    if (length($0) < 4) refuse("has fewer than four digits")
+    if (length($0) > 4) refuse("has more than four digits")
+    print NR, substr($0, 1, 1), substr($0, 2, 1), substr($0, 3, 1), substr($0, 4, 1)
+}
