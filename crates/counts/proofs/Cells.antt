@@ -3,7 +3,7 @@
 use mathlib.Core.Path.{_≡_, refl, sym, ap, _∙_}
 use mathlib.Core.Bool.{true, _&&_}
 use mathlib.Core.List.{List}
-use Prim.Native.Nat.{ℕ, _+_, _≤_, _<_, min}
+use Prim.Native.Nat.{ℕ, _+_, _≤_, _<_}
 use native.Mathlib.Omega.{arith}
 use native.Mathlib.Nat.{le-refl}
 use borrow.Author.Count.{below-none, below-more}
@@ -15,9 +15,9 @@ use Rattle.meaning.specs.Lists.{each, tab}
 use Rattle.meaning.specs.Counting.{Position, oneHigher, count, below}
 use Rattle.meaning.specs.Written.{positionBytes}
 use Rattle.meaning.proofs.Tests.{both-left, both-right}
-use Rattle.meaning.proofs.Lists.{tab-length, tab-at, tab-beyond, tab-same}
+use Rattle.meaning.proofs.Lists.{tab-length, tab-at, tab-same}
 use Rattle.meaning.proofs.Steps.{below-antisym}
-use Rattle.counts.specs.Cells.{cell, cells, lesserCounts}
+use Rattle.counts.specs.Cells.{cell, cells}
 
 pub cells-length : (m : List ℤ) → length (cells m) ≡ 8
 unfolding cells
@@ -27,18 +27,10 @@ pub cells-at : (m : List ℤ) (q : ℕ) → q < 8 → count (cells m) q ≡ cell
 unfolding cells
 cells-at m q l = tab-at 8 (cell m) q 0 l
 
-pub cells-beyond : (m : List ℤ) (q : ℕ) → 8 ≤ q → count (cells m) q ≡ 0
-unfolding cells
-cells-beyond m q l = tab-beyond 8 (cell m) q 0 l
-
 -- below, and the lesser counts, count by count
 pub below-cells : (a b : List ℤ) → below (cells a) (cells b) ≡ each 8 (λ q. leb (cell a q) (cell b q))
 unfolding below cells
 below-cells a b = refl
-
-pub lesser-cells : (a b : List ℤ) → lesserCounts (cells a) (cells b) ≡ tab 8 (λ q. min (cell a q) (cell b q))
-unfolding lesserCounts cells
-lesser-cells a b = refl
 
 -- two arrays, each below the other, stand for one position
 pub same-cells : (a b : List ℤ) → (below (cells a) (cells b) && below (cells b) (cells a)) ≡ true → cells a ≡ cells b

@@ -8,15 +8,15 @@ use native.Mathlib.Decide.{decLt}
 use native.Mathlib.Omega.{arith}
 use lib.IntN.{ℤ}
 use lib.ListN.{length, getD}
-use Rattle.meaning.specs.Lists.{largest, smallest}
+use Rattle.meaning.specs.Lists.{largest}
 use Rattle.meaning.specs.Table.{bit}
 use Rattle.meaning.specs.Counting.{count, plus, forward, back}
-use Rattle.meaning.proofs.Tests.{largest-same, smallest-same}
-use Rattle.meaning.proofs.Steps.{count-beyond, forward-length, forward-at, back-length, back-at}
+use Rattle.meaning.proofs.Tests.{largest-same}
+use Rattle.meaning.proofs.Steps.{count-beyond, forward-length, forward-at, back-length}
 use Rattle.counts.specs.Cells.{cell, cells, halfOf}
 use Rattle.counts.specs.declared.position.Half.{Half}
 use Rattle.counts.proofs.Cells.{cells-at}
-use Rattle.counts.proofs.Edges.{bit-beyond, mask-beyond}
+use Rattle.counts.proofs.Edges.{mask-beyond}
 
 -- what state p brings to state q going forward
 abbrev pub brought : ℕ → Half → List ℤ → ℕ → ℕ → ℕ
@@ -40,17 +40,6 @@ module _ (k : ℕ) (half : Half) (m : List ℤ) where
   pub forward-none : (q : ℕ) → half .targets ≤ q → count (forward k (halfOf half) (cells m)) q ≡ 0
   unfolding halfOf
   forward-none q l = count-beyond (forward k (halfOf half) (cells m)) q (rw (forward-length k (halfOf half) (cells m)) l)
-
-  pub back-left : (eased : List ℤ) (p : ℕ) → ((q : ℕ) → q < 8 → cell eased q ≡ cell m q - getD (half .marks) q 0) → p < half .sources
-      → smallest (k + 1) (half .targets) (left k (getD (half .masks) p 0) eased) ≡ count (back k (halfOf half) (cells m)) p
-  unfolding halfOf
-  back-left eased p less l =
-      smallest-same (k + 1) (half .targets) _ _ (λ q _. go q (decLt q 8)) ∙ sym (back-at k (halfOf half) (cells m) p l)
-    where
-      go : (q : ℕ) → Dec (q < 8)
-          → left k (getD (half .masks) p 0) eased q ≡ cond (bit (getD (half .masks) p 0) q) (count (cells m) q - getD (half .marks) q 0) (k + 1)
-      go q (yes b) = rw (less q b, cells-at m q b)
-      go q (no b) = rw (bit-beyond (getD (half .masks) p 0) q (omega arith))
 
   pub back-none : (p : ℕ) → half .sources ≤ p → count (back k (halfOf half) (cells m)) p ≡ 0
   unfolding halfOf

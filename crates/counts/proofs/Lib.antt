@@ -4,3 +4,6 @@ pub mod Cells
 pub mod Edges
 pub mod Halves
 pub mod Wide
+pub mod Lesser
+pub mod Bytes
+pub mod Bars

@@ -17,7 +17,7 @@ use Rattle.meaning.specs.Written.{positionBytes}
 use Rattle.meaning.proofs.Tests.{refuted, largest-same, smallest-same, same-test}
 use Rattle.meaning.proofs.Lists.{tab-same}
 use Rattle.meaning.proofs.Ascending.{before-irrefl}
-use Rattle.meaning.proofs.Steps.{count-beyond, same-counts, below-at, below-of, safe-at, safe-of}
+use Rattle.meaning.proofs.Steps.{count-beyond, same-counts, below-at, below-of}
 use Rattle.meaning.proofs.Buffers.{position-bytes}
 use Rattle.meaning.proofs.Readings.{bytes-at}
 
@@ -55,12 +55,6 @@ below-counts F F′ G G′ f g =
     (λ b. below-of F′ G′ (λ q _. rw (← f q, ← g q) (below-at F G b q)))
     (λ b. below-of F G (λ q _. rw (f q, g q) (below-at F′ G′ b q)))
 
-pub safe-counts : (K : ℕ) (F G : Position) → ((q : ℕ) → count F q ≡ count G q) → safe K F ≡ safe K G
-safe-counts K F G e =
-    same-test (safe K F) (safe K G)
-    (λ s. safe-of K G (λ q _. rw (← e q) (safe-at K F s q)))
-    (λ s. safe-of K F (λ q _. rw (e q) (safe-at K G s q)))
-
 pub forward-counts : (K : ℕ) (h : Half) (F G : Position) → ((q : ℕ) → count F q ≡ count G q) → forward K h F ≡ forward K h G
 unfolding forward
 forward-counts K h F G e = tab-same (h .targets) _ _ (λ q _. largest-same (h .sources) _ _ (λ p _. rw (e p)))
@@ -76,9 +70,6 @@ back-counts K h F G e = back-reads K h F G (λ q _. e q)
 -- so they do not see that a position was widened
 pub below-wide : (F G : Position) → length F ≤ 8 → length G ≤ 8 → below (positionBytes F) (positionBytes G) ≡ below F G
 below-wide F G f g = below-counts (positionBytes F) F (positionBytes G) G (wide-count F f) (wide-count G g)
-
-pub safe-wide : (K : ℕ) (F : Position) → length F ≤ 8 → safe K (positionBytes F) ≡ safe K F
-safe-wide K F f = safe-counts K (positionBytes F) F (wide-count F f)
 
 pub forward-wide : (K : ℕ) (h : Half) (F : Position) → length F ≤ 8 → forward K h (positionBytes F) ≡ forward K h F
 forward-wide K h F f = forward-counts K h (positionBytes F) F (wide-count F f)

@@ -4,9 +4,9 @@ ghost use mathlib.Core.Path.{_≡_};
 ghost use mathlib.Core.Bool.{cond, _&&_};
 ghost use Prim.Native.Nat.{_≤_, _+_};
 ghost use lib.ListN.{getD};
-ghost use Rattle.meaning.specs.Lists.{before as beforeBytes, largest, smallest};
-ghost use Rattle.meaning.specs.Counting.{oneHigher, below as belowAll, plus, forward as forwardBy, back as backBy};
-ghost use Rattle.counts.specs.Cells.{cell, cells, lesserCounts, halfOf, startCounts};
+ghost use Rattle.meaning.specs.Lists.{largest, tab};
+ghost use Rattle.meaning.specs.Counting.{oneHigher, below as belowAll, plus, forward as forwardBy};
+ghost use Rattle.counts.specs.Cells.{cell, cells, halfOf, startCounts};
 ghost use Rattle.meaning.specs.Written.{positionBytes};
 ghost use Rattle.meaning.specs.Table.{bit};
 
@@ -18,8 +18,7 @@ pub struct Half {
     pub marks: [u8; 8],
 }
 
-// Whether each count of one position is at most the other's. No early exit: vector instructions
-// compare all eight at once.
+// Whether each count of one position is at most the other's.
 pub fn below(a: &[i8; 8], b: &[i8; 8]) -> bool
     ensures { λ r. ⌜ r ≡ belowAll (cells (now (a .entry))) (cells (now (b .entry))) ⌝ }
 {
@@ -30,19 +29,6 @@ pub fn below(a: &[i8; 8], b: &[i8; 8]) -> bool
         q += 1;
     }
     held
-}
-
-// The lesser counts of two positions.
-pub fn lesser(a: &[i8; 8], b: &[i8; 8]) -> [i8; 8]
-    ensures { λ r. ⌜ cells r ≡ lesserCounts (cells (now (a .entry))) (cells (now (b .entry))) ⌝ }
-{
-    let mut out = [-1i8; 8];
-    let mut q = 0;
-    while q < 8 {
-        out[q] = count::lesser(a[q], b[q]);
-        q += 1;
-    }
-    out
 }
 
 // Whether the mask has the target.
@@ -92,43 +78,18 @@ pub fn forward(m: &[i8; 8], half: Half, k: usize) -> [i8; 8]
     out
 }
 
-// The least of what the mask's targets leave to their source, and K where there is none.
-fn least(eased: &[i8; 8], mask: u8, targets: usize, k: usize) -> i8
+// The one maximal safe position of a side of n states: K at each.
+pub fn brim(k: usize, n: usize) -> [i8; 8]
     requires { ⌜ k ≤ 7 ⌝ }
-    ensures { λ r. ⌜ oneHigher r ≡ smallest (k + 1) targets (λ q. cond (bit mask q) (cell (now (eased .entry)) q) (k + 1)) ⌝ }
+    ensures { λ r. ⌜ cells r ≡ positionBytes (tab n (λ _. k + 1)) ⌝ }
 {
-    let mut low = k as i8;
-    let mut q = 0;
-    while q < 8 {
-        if q < targets {
-            if leads(mask, q) {
-                low = count::lesser(low, eased[q]);
-            }
-        }
-        q += 1;
-    }
-    low
-}
-
-// The step back by a letter: the counts less their marks, then the least of them over each source's
-// targets.
-pub fn back(m: &[i8; 8], half: Half, k: usize) -> [i8; 8]
-    requires { ⌜ k ≤ 7 ⌝ }
-    ensures { λ r. ⌜ cells r ≡ positionBytes (backBy k (halfOf half) (cells (now (m .entry)))) ⌝ }
-{
-    let mut eased = [-1i8; 8];
-    let mut q = 0;
-    while q < 8 {
-        eased[q] = count::less(m[q], half.marks[q]);
-        q += 1;
-    }
     let mut out = [-1i8; 8];
-    let mut p = 0;
-    while p < 8 {
-        if p < half.sources {
-            out[p] = least(&eased, half.masks[p], half.targets, k);
+    let mut q = 0;
+    while q < 8 {
+        if q < n {
+            out[q] = k as i8;
         }
-        p += 1;
+        q += 1;
     }
     out
 }
@@ -155,23 +116,4 @@ pub fn same(a: &[i8; 8], b: &[i8; 8]) -> bool
     ensures { λ r. ⌜ r ≡ (belowAll (cells (now (a .entry))) (cells (now (b .entry))) && belowAll (cells (now (b .entry))) (cells (now (a .entry)))) ⌝ }
 {
     below(a, b) & below(b, a)
-}
-
-// Whether one position comes before another, ascending as byte strings.
-pub fn before(a: &[i8; 8], b: &[i8; 8]) -> bool
-    ensures { λ r. ⌜ r ≡ beforeBytes (cells (now (a .entry))) (cells (now (b .entry))) ⌝ }
-{
-    let mut q = 0;
-    while q < 8 {
-        let x = count::to_byte(a[q]);
-        let y = count::to_byte(b[q]);
-        if x < y {
-            return true;
-        }
-        if y < x {
-            return false;
-        }
-        q += 1;
-    }
-    false
 }

@@ -1,6 +1,7 @@
 // The rounds: from the list of W(r) to that of W(r + 1) by each input and each output in turn, until
 // the list repeats.
 use crate::half;
+use counts::position;
 use sets::list;
 use sets::named;
 use sets::tops::Found;
@@ -23,22 +24,6 @@ pub enum Settled {
     After(usize, usize),
 }
 
-// The one maximal safe position of a side of n states: K at each.
-pub fn brim(k: usize, n: usize) -> [i8; 8]
-    requires { ⌜ k ≤ 7 ⌝ }
-    ensures { λ r. ⌜ cells r ≡ positionBytes (brimOf k n) ⌝ }
-{
-    let mut out = [-1i8; 8];
-    let mut q = 0;
-    while q < 8 {
-        if q < n {
-            out[q] = k as i8;
-        }
-        q += 1;
-    }
-    out
-}
-
 // A(r, all inputs) from W(r): all safe positions, cut by each input.
 fn all_inputs(
     table: Table,
@@ -52,7 +37,7 @@ fn all_inputs(
     ensures { λ r. ⌜ HoldsLast room (widestA k (tableIn table) (members (now (w .entry)) wn))
         (listA k (tableIn table) (members (now (w .entry)) wn) (tableIn table .inputs)) (now (a .exit)) r ⌝ }
 {
-    a[0] = brim(k, table.worlds);
+    a[0] = position::brim(k, table.worlds);
     let mut n = 1;
     let mut input = 0;
     while input < table.inputs {
@@ -157,6 +142,6 @@ pub fn settle_all(table: Table, k: usize, room: usize, out: &mut [[i8; 8]]) -> S
     requires { ⌜ (k ≤ 7) × (1 ≤ room) × (room ≤ 256) × (room ≤ length (now out)) × Small (tableIn table) × (0 < tableIn table .outputs) ⌝ }
     ensures { λ r. ⌜ Settles k (tableIn table) (allSafe k (tableIn table .controllers)) room (now (out .exit)) r ⌝ }
 {
-    let first = [brim(k, table.controllers); 1];
+    let first = [position::brim(k, table.controllers); 1];
     settle(table, k, room, &first, 1, out)
 }

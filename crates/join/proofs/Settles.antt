@@ -1,8 +1,8 @@
 -- From the answer of the rounds to checks 11 and 12 of their stage: FULL is given where the rounds are full, and where they are not, finishing the list that
 -- they left is what the stage comes to. NOTHING is never given: a position wins wherever there is an output. Assumes nothing.
-use mathlib.Core.Path.{_≡_, refl, sym, ap, _∙_}
+use mathlib.Core.Path.{_≡_, ap}
 use mathlib.Core.Bool.{true, false, _||_}
-use mathlib.Core.List.{List, map}
+use mathlib.Core.List.{List}
 use Prim.Native.Nat.{ℕ, _*_, _≤_, _<_}
 use native.Mathlib.Omega.{arith}
 use lib.IntN.{ℤ}
@@ -13,7 +13,7 @@ use Rattle.meaning.specs.declared.Answer.{Answer}
 use Rattle.meaning.specs.declared.Refusal.the-variants as R
 use Rattle.meaning.specs.Table.{Table}
 use Rattle.meaning.specs.Rounds.{Set}
-use Rattle.meaning.specs.Written.{positionBytes, winners}
+use Rattle.meaning.specs.Written.{winners}
 use Rattle.meaning.specs.Answers.{Check, check, refused, judge, room, stageChecks, unsolved, solvedFrom}
 use Rattle.meaning.proofs.Tests.{neither-left, neither-right}
 use Rattle.meaning.proofs.Rounds.{FirstSet}

@@ -1,23 +1,22 @@
 -- By parts, stage by stage: what the call comes to by its checks in their order, and what each stage may take from two tables that pass. The joined table's
 -- bytes pass again, it is the two side by side, and the pairs are a first set of it; so the rounds may begin at their list, which covers them, and a list of
 -- winners alone is paired into it. Assumes nothing.
-use mathlib.Core.Path.{_≡_, refl, sym, ap, ap₂, _∙_}
-use mathlib.Core.Bool.{Bool, true, false}
+use mathlib.Core.Path.{_≡_, sym, ap, ap₂, _∙_}
+use mathlib.Core.Bool.{true}
 use mathlib.Core.List.{List, [], _∷_, _++_, map}
 use Prim.Native.Nat.{ℕ, _+_, _≤_, _<_}
-use native.Mathlib.Omega.{arith}
 use lib.IntN.{ℤ}
 use lib.Dec.{ltb}
-use lib.ListN.{length, length-map}
+use lib.ListN.{length}
 use borrow.Author.Tests.{lt-ltb, le-ltb}
-use Rattle.meaning.specs.declared.Refusal.the-variants.{Bound, Room, Full}
+use Rattle.meaning.specs.declared.Refusal.the-variants.{Full}
 use Rattle.meaning.specs.Records.{recordsOf, output, input}
 use Rattle.meaning.specs.Table.{Table, tableOf}
 use Rattle.meaning.specs.Counting.{Position}
 use Rattle.meaning.specs.Rounds.{Set, allSafe, winning, maximalMembers}
 use Rattle.meaning.specs.Written.{positionBytes, winners}
 use Rattle.meaning.specs.Join.{joined, pairs}
-use Rattle.meaning.specs.Answers.{Check, check, judge, bound, room, tableChecks, stageChecks, unsolved, solvedFrom, pairChecks, partsChecks, parts}
+use Rattle.meaning.specs.Answers.{Check, check, judge, bound, room, stageChecks, unsolved, solvedFrom, pairChecks, partsChecks, parts}
 use Rattle.meaning.proofs.Rounds.{FirstSet, allSafe-first, winning-safe}
 use Rattle.meaning.proofs.Records.{records-back, letters-top}
 use Rattle.meaning.proofs.Checks.{Passes, judge-append}
@@ -26,7 +25,7 @@ use Rattle.meaning.proofs.Good.{Good}
 use Rattle.meaning.proofs.Sound.{passes-good, passes-first, passes-second, passes-paired}
 use Rattle.meaning.proofs.Union.{controllers-sum}
 use Rattle.meaning.proofs.Parts.{pairs-first}
-use Rattle.meaning.proofs.PairLists.{beside, pairs-members}
+use Rattle.meaning.proofs.PairLists.{pairs-members}
 use Rattle.meaning.proofs.JoinGood.{joined-sound}
 use Rattle.meaning.proofs.Join.{joined-union, joined-good, joined-passes}
 use Rattle.table.specs.declared.Table as T
@@ -37,7 +36,7 @@ use Rattle.sets.proofs.Engine.{Small, stands-length, members-sized}
 use Rattle.game.specs.declared.rounds.Settled.{Settled}
 use Rattle.game.specs.declared.rounds.Settled.the-variants as S
 use Rattle.game.specs.Rounds.{coveredBy, FirstList, Settles}
-use Rattle.game.specs.Finished.{Playable, Roomy}
+use Rattle.game.specs.Finished.{Playable}
 use Rattle.game.proofs.First.{passes-small, first-covered, first-list}
 use Rattle.game.proofs.Listed.{listed, listed-playable}
 use Rattle.join.specs.Beside.{allBeside}

@@ -1,6 +1,6 @@
 -- Words about numbers and lists that the other pages use. Each is over the numbers below n, or over a list, from its front.
-use mathlib.Core.Bool.{Bool, true, false, cond, not, _&&_, _||_}
-use mathlib.Core.List.{List, [], _∷_, _++_, map}
+use mathlib.Core.Bool.{Bool, true, false, cond, _&&_, _||_}
+use mathlib.Core.List.{List, [], _∷_, _++_}
 use Prim.Native.Nat.{ℕ, zero, suc, max, min}
 use lib.ListN.{length, drop}
 use lib.Dec.{eqb, ltb}

@@ -1,9 +1,9 @@
 -- Document 01, "Table records": what a table's bytes are, and the table of limits.
-use mathlib.Core.Bool.{Bool, true, false, not, _&&_, _||_}
-use mathlib.Core.List.{List, [], _∷_, _++_, flatMap}
+use mathlib.Core.Bool.{Bool, _&&_, _||_}
+use mathlib.Core.List.{List, [], _∷_, flatMap}
 use Prim.Native.Nat.{ℕ, _-_}
-use lib.ListN.{length, getD}
-use lib.Dec.{eqb, leb, ltb}
+use lib.ListN.{getD}
+use lib.Dec.{eqb, ltb}
 use Rattle.meaning.specs.Lists.{keep}
 
 -- "A table is a run of 4-byte records": byte 0 is the kind; byte 1 the state, or the state an edge is from; byte 2 the flags,

@@ -1,6 +1,6 @@
 -- Document 01, "Rounds and their named sets". A set of positions is a test; the rounds take their first set as a parameter, since by
 -- parts replaces it.
-use mathlib.Core.Bool.{Bool, true, false, not, _&&_, _||_, Bool·beq}
+use mathlib.Core.Bool.{Bool, not, _&&_, Bool·beq}
 use mathlib.Core.List.{List, [], _∷_, map, flatMap}
 use Prim.Native.Nat.{ℕ, zero, suc, _+_, _^_, max}
 use lib.ListN.{length}

@@ -5,7 +5,7 @@ use Prim.Native.Nat.{ℕ, suc, _/_, _%_, _^_}
 use lib.ListN.{length}
 use lib.Dec.{eqb, ltb}
 use Rattle.meaning.specs.Lists.{any, largest}
-use Rattle.meaning.specs.Records.{Record, at, ofKind, same, recordsOf, controller, world, output, input}
+use Rattle.meaning.specs.Records.{Record, at, ofKind, same, controller, world, output, input}
 
 -- One letter's step from one side to the other: how many states each side has, the edges on that letter, and the mark of the
 -- state entered. "Kind 3 leads from a controller-turn state to a world-turn state, kind 4 back": both are such halves of a round.

@@ -1,88 +1,107 @@
 -- A loop that goes over candidates and keeps what they climb to: the array holds what the definition has collected from the candidates so far
--- (`Collects`). One that a kept one covers is passed over; any other is put; and if there is no room for it, there never will be, since what is
--- collected grows. Assumes nothing.
+-- (`Collects`). One that a kept one covers is passed over; what any other climbs to is added at the end; and if there is no room for it, there never
+-- will be, since what is collected, from a list or from the rows of pairs, grows. Assumes nothing.
 use mathlib.Core.Path.{_≡_, refl, sym, ap, _∙_}
+use mathlib.Core.Logic.{⊎-elim}
 use mathlib.Core.Bool.{true, false}
-use mathlib.Core.List.{List, [], _∷_, _++_}
+use mathlib.Core.List.{List, [], _∷_, _++_, map, reverse}
 use Prim.Native.Nat.{ℕ, _+_, _≤_, _<_}
+use native.Mathlib.Nat.{le-refl}
 use native.Mathlib.Omega.{arith}
-use lib.IntN.{ℤ}
-use lib.ListN.{length}
+use lib.ListN.{length, set, length-append, length-set}
 use Rattle.meaning.specs.Lists.{any}
 use Rattle.meaning.specs.Counting.{Position, below}
-use Rattle.sets.specs.Members.{members, inserted, Holds}
-use Rattle.sets.specs.Climb.{climbed, keepOne, collected}
-use Rattle.sets.specs.declared.tops.Found.{Found}
+use Rattle.meaning.proofs.Tests.{decided}
+use Rattle.counts.specs.Cells.{lesserCounts}
+use Rattle.sets.specs.Tops.{meets, thinned}
+use Rattle.counts.specs.Words.{countsIn}
+use Rattle.sets.specs.Members.{words, HoldsWords}
+use Rattle.sets.specs.Climb.{climbed, keepOne, collected, rowsOf}
 use Rattle.sets.specs.declared.tops.Found.the-variants.{Number, Full}
-use Rattle.sets.proofs.Members.{members-length, holds-full, holds-number, full-held, number-held}
-use Rattle.sets.proofs.Insert.{inserted-length}
-use Rattle.sets.proofs.Climb.{collected-append, collected-grows, keep-covered, keep-new}
+use Rattle.sets.proofs.Members.{words-length, words-store, words-hold, held-full}
+
+-- a run over two lists goes over one and then the other
+collected-append : (Fs l xs ys : List Position) → collected Fs l (xs ++ ys) ≡ collected Fs (collected Fs l xs) ys
+unfolding collected
+collected-append Fs l [] ys = refl
+collected-append Fs l (F ∷ xs) ys = collected-append Fs (keepOne Fs l F) xs ys
+
+-- one more that a kept one covers, and one more that none covers
+module _ (Fs l : List Position) (F : Position) where
+  keep-covered : any (below F) l ≡ true → keepOne Fs l F ≡ l
+  unfolding keepOne
+  keep-covered e = rw e
+
+  keep-new : any (below F) l ≡ false → keepOne Fs l F ≡ l ++ climbed Fs F ∷ []
+  unfolding keepOne
+  keep-new e = rw e
+
+  -- the list grows
+  keep-grows : length l ≤ length (keepOne Fs l F)
+  keep-grows =
+      ⊎-elim (λ e. rw (keep-covered e) (le-refl (length l))) (λ e. rw (keep-new e, length-append l (climbed Fs F ∷ [])) (omega arith))
+      (decided (any (below F) l))
+
+pub collected-grows : (Fs l rest : List Position) → length l ≤ length (collected Fs l rest)
+unfolding collected
+collected-grows Fs l [] = le-refl (length l)
+collected-grows Fs l (F ∷ rest) = omega (arith, keep-grows Fs l F, collected-grows Fs (keepOne Fs l F) rest)
+
+pub rows-grow : (xs ys l : List Position) → length l ≤ length (rowsOf xs ys l)
+unfolding rowsOf
+rows-grow [] ys l = le-refl (length l)
+rows-grow (x ∷ xs) ys l =
+    let row = thinned (reverse (map (lesserCounts x) ys)) in
+    omega (arith, collected-grows (meets xs ys) l row, rows-grow xs ys (collected (meets xs ys) l row))
 
 -- the array, as long as at first, holds the n that were collected, within the room
-pub record Collects (Fs l seen : List Position) (room : ℕ) (old out : List (List ℤ)) (n : ℕ) : Type 0 where
+pub record Collects (Fs l seen : List Position) (room : ℕ) (old out : List ℕ) (n : ℕ) : Type 0 where
   pub within : n ≤ room
   pub long : length out ≡ length old
-  pub holds : members out n ≡ collected Fs l seen
+  pub holds : words out n ≡ collected Fs l seen
 
 -- nothing seen yet
-pub collects-none : {Fs : List Position} {room : ℕ} (out : List (List ℤ)) (n : ℕ) → n ≤ room → Collects Fs (members out n) [] room out out n
+pub collects-none : {Fs : List Position} {room : ℕ} (out : List ℕ) (n : ℕ) → n ≤ room → Collects Fs (words out n) [] room out out n
 unfolding collected
 collects-none out n h = record { within = h; long = refl; holds = refl }
 
-module _ {Fs l seen : List Position} {room : ℕ} {old out : List (List ℤ)} {n : ℕ} (so-far : Collects Fs l seen room old out n) where
+module _ {Fs l seen : List Position} {room : ℕ} {old out : List ℕ} {n : ℕ} (so-far : Collects Fs l seen room old out n) where
   -- all seen
-  pub collects-whole : room ≤ length old → Holds room (collected Fs l seen) out (Number n)
-  collects-whole h = holds-number (so-far .within) (omega (arith, so-far .within, so-far .long)) (so-far .holds)
+  pub collects-whole : room ≤ length old → HoldsWords room (collected Fs l seen) out (Number n)
+  collects-whole h = words-hold out (so-far .within) (omega (arith, so-far .within, so-far .long)) (so-far .holds)
 
   -- from those kept on
-  onward : (rest : List Position) → collected Fs l (seen ++ rest) ≡ collected Fs (members out n) rest
+  onward : (rest : List Position) → collected Fs l (seen ++ rest) ≡ collected Fs (words out n) rest
   onward rest = collected-append Fs l seen rest ∙ ap (λ (k : List Position). collected Fs k rest) (sym (so-far .holds))
 
   -- one more candidate: a kept one covers it, or it is new
   module _ (F : Position) where
-    pub collects-pass : any (below F) (members out n) ≡ true → Collects Fs l (seen ++ F ∷ []) room old out n
+    pub collects-pass : any (below F) (words out n) ≡ true → Collects Fs l (seen ++ F ∷ []) room old out n
     unfolding collected
     collects-pass c =
-        record { within = so-far .within; long = so-far .long; holds = sym (onward (F ∷ []) ∙ keep-covered Fs (members out n) F c) }
+        record { within = so-far .within; long = so-far .long; holds = sym (onward (F ∷ []) ∙ keep-covered Fs (words out n) F c) }
 
-    module _ (new : any (below F) (members out n) ≡ false) where
-      pub collects-put : {out′ : List (List ℤ)} {top : Position} → n < room → length out′ ≡ length out → top ≡ climbed Fs F
-          → members out′ (n + 1) ≡ inserted top (members out n) → Collects Fs l (seen ++ F ∷ []) room old out′ (n + 1)
+    module _ (new : any (below F) (words out n) ≡ false) (h : room ≤ length old) where
+      pub collects-put : (top : ℕ) → countsIn top ≡ climbed Fs F → n < room → Collects Fs l (seen ++ F ∷ []) room old (set out n top) (n + 1)
       unfolding collected
-      collects-put h long climb e =
+      collects-put top climb k =
           record {
             within = omega arith;
-            long = long ∙ so-far .long;
-            holds = e ∙ ap (λ (T : Position). inserted T (members out n)) climb ∙ sym (onward (F ∷ []) ∙ keep-new Fs (members out n) F new);
+            long = length-set out n top ∙ so-far .long;
+            holds =
+                words-store out n top (omega (arith, so-far .long)) ∙ ap (λ (T : Position). words out n ++ T ∷ []) climb
+                ∙ sym (onward (F ∷ []) ∙ keep-new Fs (words out n) F new);
           }
 
-      pub collects-full : (rest : List Position) → n ≡ room → room ≤ length old → Holds room (collected Fs l (seen ++ F ∷ rest)) out Full
+      pub collects-full : (rest : List Position) → n ≡ room → HoldsWords room (collected Fs l (seen ++ F ∷ rest)) out Full
       unfolding collected
-      collects-full rest e h =
-          holds-full
+      collects-full rest e =
+          held-full
           (omega (
             arith,
             ap length (onward (F ∷ rest)),
-            collected-grows Fs (keepOne Fs (members out n) F) rest,
-            ap length (keep-new Fs (members out n) F new),
-            inserted-length (climbed Fs F) (members out n),
-            members-length out n (omega (arith, so-far .long)),
+            collected-grows Fs (keepOne Fs (words out n) F) rest,
+            ap length (keep-new Fs (words out n) F new),
+            length-append (words out n) (climbed Fs F ∷ []),
+            words-length out n (omega (arith, so-far .long)),
           ))
-
-  -- more candidates, by a function that goes over them
-  module _ (more : List Position) {out′ : List (List ℤ)} {found : Found} (after : Holds room (collected Fs (members out n) more) out′ found) where
-    pub collects-more : {m : ℕ} → found ≡ Number m → length out′ ≡ length out → Collects Fs l (seen ++ more) room old out′ m
-    collects-more e long =
-        let r = number-held after e in
-        record { within = r .0; long = long ∙ so-far .long; holds = r .1 ∙ sym (onward more) }
-
-    pub collects-over : (rest : List Position) → found ≡ Full → Holds room (collected Fs l (seen ++ (more ++ rest))) out′ Full
-    collects-over rest e =
-        holds-full
-        (omega (
-          arith,
-          full-held after e,
-          ap length (onward (more ++ rest)),
-          ap length (collected-append Fs (members out n) more rest),
-          collected-grows Fs (collected Fs (members out n) more) rest,
-        ))

@@ -3,20 +3,18 @@
 use mathlib.Core.Path.{_≡_, sym, ap, _∙_}
 use mathlib.Core.Logic.{⊎-elim}
 use mathlib.Core.Bool.{true, not}
-use mathlib.Core.List.{List, [], _∷_, Memᴰ·cast, List·Memᴰ, List·Memᴰ·not-nil}
-use Prim.Native.Nat.{ℕ, _≤_}
-use native.Mathlib.Omega.{arith}
+use mathlib.Core.List.{List, [], _∷_, Memᴰ·cast, List·Memᴰ}
+use Prim.Native.Nat.{ℕ}
 use lib.ListN.{length}
 use borrow.Author.Tests.{not-true}
 use Rattle.meaning.specs.Lists.{keep}
 use Rattle.meaning.specs.Counting.{Position, below}
 use Rattle.meaning.proofs.Tests.{clash, decided, either-left, either-right, either-cases}
 use Rattle.meaning.proofs.Lists.{every-at, every-of, keep-member, keep-holds, keep-of}
-use Rattle.meaning.proofs.Sizes.{keep-length}
 use Rattle.meaning.proofs.Steps.{below-refl, below-antisym}
-use Rattle.meaning.proofs.Ascending.{Ascending, none, ascending-equal}
+use Rattle.meaning.proofs.Ascending.{Ascending, ascending-equal}
 use Rattle.sets.specs.Tops.{put, top, tops}
-use Rattle.sets.proofs.Put.{member-put, put-ascends, gathered-member, member-gathered, gathered-ascends, gathered-length}
+use Rattle.sets.proofs.Put.{member-put, put-ascends, gathered-member, member-gathered, gathered-ascends}
 
 -- all positions of a list have n counts
 abbrev pub Sized : ℕ → List Position → Type 0
@@ -31,10 +29,6 @@ pub record Kept (Fs l : List Position) : Type 0 where
 -- a list covers a position
 abbrev pub Covered : List Position → Position → Type 0
 Covered l F = (G : Position) × List·Memᴰ G l × (below F G ≡ true)
-
--- nothing is kept at first
-pub kept-none : (Fs : List Position) → Kept Fs []
-kept-none Fs = record { ascends = none; among = λ F m. absurd (List·Memᴰ·not-nil m); maximal = λ F G m _ _. absurd (List·Memᴰ·not-nil m) }
 
 -- a maximal one may be put to those kept
 pub kept-put : (Fs l : List Position) (F : Position) → Kept Fs l → List·Memᴰ F Fs
@@ -77,10 +71,6 @@ member-tops Fs F m = keep-member (top Fs) Fs F (member-gathered (keep (top Fs) F
 pub tops-top : (Fs : List Position) (F : Position) → List·Memᴰ F (tops Fs) → top Fs F ≡ true
 unfolding tops
 tops-top Fs F m = keep-holds (top Fs) Fs F (member-gathered (keep (top Fs) Fs) F m)
-
-pub tops-length : (Fs : List Position) → length (tops Fs) ≤ length Fs
-unfolding tops
-tops-length Fs = omega (arith, gathered-length (keep (top Fs) Fs), keep-length (top Fs) Fs)
 
 -- those kept are tops
 pub kept-tops : (Fs l : List Position) → Kept Fs l → (F : Position) → List·Memᴰ F l → List·Memᴰ F (tops Fs)

@@ -23,7 +23,7 @@ use Rattle.meaning.proofs.Maximal.{member-maximal, member-in, maximal-top, memb
 use Rattle.counts.specs.Cells.{lesserCounts}
 use Rattle.sets.specs.Tops.{tops, meets}
 use Rattle.sets.specs.Engine.{brim}
-use Rattle.sets.proofs.Counts.{lesser-length, lesser-left, lesser-right, lesser-of}
+use Rattle.counts.proofs.Lesser.{lesser-length, lesser-left, lesser-right, lesser-of}
 use Rattle.sets.proofs.Kept.{Covered, tops-only, tops-one}
 use Rattle.sets.proofs.Thinned.{meets-member, member-meets}
 

@@ -1,13 +1,21 @@
 -- The laws that belong to no one function, each after those it cites.
-pub mod Counts
 pub mod Put
 pub mod Insert
+pub mod Sorted
 pub mod Kept
 pub mod Climb
 pub mod Pairs
 pub mod Thinned
+pub mod Thins
+pub mod Runs
+pub mod Paired
+pub mod United
 pub mod Widened
 pub mod Letters
+pub mod Rounded
 pub mod Engine
+pub mod Firsts
 pub mod Members
+pub mod Keeps
 pub mod Collect
+pub mod Ordered

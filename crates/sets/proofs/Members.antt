@@ -1,34 +1,36 @@
 -- The first n positions of an array: what one more of them is, what a search over them has seen, and what a store changes. A search that has
--- found nothing among the first i has `any` false of them. The answer of a function that fills an array says how many it holds. Assumes nothing.
+-- found nothing among the first i has `any` false of them; one from the end that has found nothing from i on has the same answer for the first i.
+-- The answer of a function that fills an array says how many it holds. Assumes nothing.
 use mathlib.Core.Path.{_≡_, refl, sym, ap, ap₂, _∙_}
 use mathlib.Core.Logic.{_↔_}
-use mathlib.Core.Bool.{Bool, true, false, true≢false}
-use mathlib.Core.List.{List, [], _∷_, _++_, map, map-append, Memᴰ·of-map, Memᴰ·append-right, List·Memᴰ·head}
-use Prim.Native.Nat.{ℕ, suc, _+_, _≤_, _<_}
+use mathlib.Core.Bool.{Bool, true, false, true≢false, cond, _||_}
+use mathlib.Core.List.{List, [], _∷_, _++_, map, Memᴰ·of-map, Memᴰ·append-right, List·Memᴰ·head}
+use Prim.Native.Nat.{ℕ, zero, suc, _+_, _-_, _≤_, _<_}
 use native.Mathlib.Nat.{le-antisymm}
-use native.Mathlib.Numerals.{add-one}
 use native.Mathlib.Decide.{decLt}
 use native.Mathlib.Omega.{arith}
 use borrow.Author.Tests.{ltb-false, lt-ltb, le-ltb, eqb-true, eq-eqb}
 use lib.Dec.{eqb}
 use lib.IntN.{ℤ}
-use lib.ListN.{length, take, drop, getD, set, length-map, length-take, List·getD-map}
-use lib.Seq.{take-suc, take-all, take-take, take-length, split-at, getD-take, length-take-le, take-suc-set}
+use lib.ListN.{length, take, getD, set}
 use Rattle.meaning.specs.Lists.{any, place}
 use Rattle.meaning.specs.Counting.{Position}
 use Rattle.meaning.proofs.Tests.{both, both-left, both-right, neither-left, neither-right, clash, refuted}
 use Rattle.meaning.proofs.Lists.{any-of, place-le, placeless}
 use Rattle.counts.specs.Cells.{cells}
 use Rattle.counts.proofs.Cells.{cells-length}
-use Rattle.sets.specs.Members.{members, alike, sameLists, foundOf, Holds}
+use Rattle.counts.specs.Words.{countsIn}
+use Rattle.sets.specs.Members.{words, members, alike, sameLists, foundOf, Held, Holds, HoldsWords}
 use Rattle.sets.specs.declared.tops.Found.{Found}
 use Rattle.sets.specs.declared.tops.Found.the-variants.{Number, Full}
 use Rattle.sets.proofs.Kept.{Sized}
+use Rattle.sets.proofs.Firsts.{first-length, first-at, first-whole, first-beyond, first-more, first-last, first-first, first-after, first-split}
+use Rattle.sets.proofs.Firsts.{first-store}
 
 module _ (all : List (List ℤ)) where
   pub members-length : (n : ℕ) → n ≤ length all → length (members all n) ≡ n
   unfolding members
-  members-length n h = length-map (take n all) cells ∙ length-take-le n all h
+  members-length = first-length cells [] all
 
   pub members-sized : (n : ℕ) → Sized 8 (members all n)
   unfolding members
@@ -36,46 +38,72 @@ module _ (all : List (List ℤ)) where
 
   pub members-at : (i n : ℕ) → i < n → getD (members all n) i (cells []) ≡ cells (getD all i [])
   unfolding members
-  members-at i n l = List·getD-map cells (take n all) i [] ∙ ap cells (getD-take n all i [] l)
-
-  -- all of them
-  pub members-whole : members all (length all) ≡ map cells all
-  unfolding members
-  members-whole = rw (take-length all)
+  members-at = first-at cells [] all
 
   pub members-beyond : (i n : ℕ) → length all ≤ i → i ≤ n → members all i ≡ members all n
   unfolding members
-  members-beyond i n h l = rw (take-all i all h, take-all n all (omega arith))
+  members-beyond = first-beyond cells [] all
 
   -- one more
   pub members-more : (i : ℕ) → i < length all → members all (i + 1) ≡ members all i ++ cells (getD all i []) ∷ []
   unfolding members
-  members-more i h = rw (add-one i, take-suc all i [] h) (map-append cells (take i all) (getD all i [] ∷ []))
+  members-more = first-more cells [] all
 
   -- those after one of them
   abbrev pub members-after : ℕ → ℕ → List Position
-  members-after i n = map cells (drop (suc i) (take n all))
+  members-after = first-after cells [] all
 
   pub members-split : (i n : ℕ) → i < n → i < length all → members all n ≡ members all i ++ cells (getD all i []) ∷ members-after i n
   unfolding members
-  members-split i n l h =
-      ap (map cells) (split-at (take n all) i [] (omega (arith, length-take n all)))
-      ∙ rw (take-take i n all (omega arith), getD-take n all i [] l) (map-append cells (take i all) (getD all i [] ∷ drop (suc i) (take n all)))
-
-  -- all of them, split at one
-  pub members-around : (i : ℕ) → i < length all → map cells all ≡ members all i ++ cells (getD all i []) ∷ members-after i (length all)
-  members-around i l = sym members-whole ∙ members-split i (length all) l l
+  members-split = first-split cells [] all
 
   -- a store of the next
   pub members-store : (i : ℕ) (p : List ℤ) → i < length all → members (set all i p) (i + 1) ≡ members all i ++ cells p ∷ []
   unfolding members
-  members-store i p h = rw (add-one i, take-suc-set all i p h) (map-append cells (take i all) (p ∷ []))
+  members-store = first-store cells [] all
 
--- a search from the front: none so far, and the first
+-- and the first n words of an array
+module _ (all : List ℕ) where
+  pub words-length : (n : ℕ) → n ≤ length all → length (words all n) ≡ n
+  unfolding words
+  words-length = first-length countsIn 0 all
+
+  pub words-whole : words all (length all) ≡ map countsIn all
+  unfolding words
+  words-whole = first-whole countsIn 0 all
+
+  pub words-more : (i : ℕ) → i < length all → words all (i + 1) ≡ words all i ++ countsIn (getD all i 0) ∷ []
+  unfolding words
+  words-more = first-more countsIn 0 all
+
+  pub words-last : (i : ℕ) → 0 < i → i ≤ length all → words all i ≡ words all (i - 1) ++ countsIn (getD all (i - 1) 0) ∷ []
+  unfolding words
+  words-last = first-last countsIn 0 all
+
+  abbrev pub words-after : ℕ → ℕ → List Position
+  words-after = first-after countsIn 0 all
+
+  pub words-split : (i n : ℕ) → i < n → i < length all → words all n ≡ words all i ++ countsIn (getD all i 0) ∷ words-after i n
+  unfolding words
+  words-split = first-split countsIn 0 all
+
+  -- those before a place
+  pub words-first : (i n : ℕ) → i ≤ n → words all i ≡ take i (words all n)
+  unfolding words
+  words-first = first-first countsIn 0 all
+
+  pub words-store : (i : ℕ) (w : ℕ) → i < length all → words (set all i w) (i + 1) ≡ words all i ++ countsIn w ∷ []
+  unfolding words
+  words-store = first-store countsIn 0 all
+
+-- a search from the front, and one from the end: whether any holds, and the place of the first, do not change by a last one that fails, or holds
 module _ {A : Type 0} (f : A → Bool) where
+  pub any-past : (xs : List A) (x : A) → f x ≡ false → any f (xs ++ x ∷ []) ≡ any f xs
+  any-past [] x q = rw q refl
+  any-past (y ∷ xs) x q = ap (λ (r : Bool). f y || r) (any-past xs x q)
+
   pub none-more : (xs : List A) (x : A) → any f xs ≡ false → f x ≡ false → any f (xs ++ x ∷ []) ≡ false
-  none-more [] x p q = rw q refl
-  none-more (y ∷ xs) x p q = rw (neither-left (f y) (any f xs) p) (none-more xs x (neither-right (f y) (any f xs) p) q)
+  none-more xs x p q = any-past xs x q ∙ p
 
   pub one-here : (xs : List A) (x : A) (ys : List A) → f x ≡ true → any f (xs ++ x ∷ ys) ≡ true
   one-here xs x ys q = any-of f (xs ++ x ∷ ys) x (Memᴰ·append-right xs (List·Memᴰ·head refl)) q
@@ -84,6 +112,10 @@ module _ {A : Type 0} (f : A → Bool) where
   place-none xs p =
       le-antisymm (place-le f xs)
       (ltb-false (place f xs) (length xs) (placeless f xs (λ x m. refuted (f x) (λ q. clash (any f xs) (any-of f xs x m q) p))))
+
+  pub place-past : (xs : List A) (x : A) → f x ≡ true → place f (xs ++ x ∷ []) ≡ place f xs
+  place-past [] x q = rw q refl
+  place-past (y ∷ xs) x q = ap (λ (r : ℕ). cond (f y) zero (suc r)) (place-past xs x q)
 
   pub place-first : (xs : List A) (x : A) (ys : List A) → any f xs ≡ false → f x ≡ true → place f (xs ++ x ∷ ys) ≡ length xs
   place-first [] x ys p q = rw q refl
@@ -120,16 +152,16 @@ pub found-number : (room : ℕ) (l : List Position) → length l ≤ room → fo
 unfolding foundOf
 found-number room l h = rw (le-ltb room (length l) h)
 
-module _ {room : ℕ} {l : List Position} {out : List (List ℤ)} where
-  pub holds-full : room < length l → Holds room l out Full
-  holds-full h = record { answer = sym (found-full room l h); held = λ k. absurd (omega arith) }
+module _ {room : ℕ} {l : List Position} {first : ℕ → List Position} where
+  pub held-full : room < length l → Held room l first Full
+  held-full h = record { answer = sym (found-full room l h); held = λ k. absurd (omega arith) }
 
-  pub holds-number : {n : ℕ} → n ≤ room → n ≤ length out → members out n ≡ l → Holds room l out (Number n)
-  holds-number {n} h k e =
-      let s : length l ≡ n = sym (ap length e) ∙ members-length out n k in
+  pub held-number : {n : ℕ} → n ≤ room → length (first n) ≡ n → first n ≡ l → Held room l first (Number n)
+  held-number {n} h k e =
+      let s : length l ≡ n = sym (ap length e) ∙ k in
       record { answer = sym (found-number room l (rw s h) ∙ ap Number s); held = λ _. rw s e }
 
-  module _ {found : Found} (h : Holds room l out found) where
+  module _ {found : Found} (h : Held room l first found) where
     pub full-held : found ≡ Full → room < length l
     full-held e = go (decLt room (length l))
       where
@@ -137,19 +169,22 @@ module _ {room : ℕ} {l : List Position} {out : List (List ℤ)} where
         go (yes b) = b
         go (no b) = absurd (let z : _≡_ {A = ℕ} 0 1 = cc (h .answer, e, found-number room l (omega arith)) in omega arith)
 
-    pub number-held : {n : ℕ} → found ≡ Number n → (n ≤ room) × (members out n ≡ l)
+    pub number-held : {n : ℕ} → found ≡ Number n → (n ≤ room) × (first n ≡ l)
     number-held {n} e = go (decLt room (length l))
       where
-        go : Dec (room < length l) → (n ≤ room) × (members out n ≡ l)
+        go : Dec (room < length l) → (n ≤ room) × (first n ≡ l)
         go (yes b) = absurd (let z : _≡_ {A = ℕ} 0 1 = cc (h .answer, e, found-full room l b) in omega arith)
         go (no b) =
             let s : length l ≡ n = cc (h .answer, e, found-number room l (omega arith)) in
             (omega arith, rw s at (h .held (omega arith)))
 
--- what one array holds, said of another: that it is too long, or copied
-module _ {room : ℕ} {l l′ : List Position} {out copy : List (List ℤ)} {found : Found} (h : Holds room l out found) (same : l ≡ l′) where
-  pub holds-refused : found ≡ Full → Holds room l′ copy Full
-  holds-refused e = holds-full (omega (arith, full-held h e, ap length same))
+-- an array of positions, or of words, that holds a list
+module _ {room : ℕ} {l : List Position} where
+  pub holds-full : (out : List (List ℤ)) → room < length l → Holds room l out Full
+  holds-full out = held-full
 
-  pub holds-copied : {n : ℕ} → found ≡ Number n → room ≤ length copy → members copy n ≡ members out n → Holds room l′ copy (Number n)
-  holds-copied e k copied = let r = number-held h e in holds-number (r .0) (omega (arith, r .0)) (copied ∙ r .1 ∙ same)
+  pub holds-number : (out : List (List ℤ)) {n : ℕ} → n ≤ room → n ≤ length out → members out n ≡ l → Holds room l out (Number n)
+  holds-number out {n} h k e = held-number h (members-length out n k) e
+
+  pub words-hold : (out : List ℕ) {n : ℕ} → n ≤ room → n ≤ length out → words out n ≡ l → HoldsWords room l out (Number n)
+  words-hold out {n} h k e = held-number h (words-length out n k) e

@@ -9,7 +9,7 @@ use Rattle.meaning.proofs.Steps.{below-trans}
 use Rattle.counts.specs.Cells.{lesserCounts}
 use Rattle.sets.specs.Tops.{meets}
 use Rattle.sets.specs.Climb.{climbed}
-use Rattle.sets.proofs.Counts.{lesser-left, lesser-right, lesser-of}
+use Rattle.counts.proofs.Lesser.{lesser-left, lesser-right, lesser-of}
 use Rattle.sets.proofs.Climb.{climbed-append, climbed-up, climbed-past, climbed-none}
 
 -- the pairs of two lists of members, of those around one, and of one more

@@ -1,17 +1,16 @@
--- Thinning a list to its maximal ones before it is paired changes nothing: two lists that cover each other have the same tops. Assumes
--- nothing.
-use mathlib.Core.Path.{_≡_, sym, ap, _∙_}
+-- Two lists that cover each other have the same tops. The members of pairs, and the sizes of members. Assumes nothing.
+use mathlib.Core.Path.{_≡_, sym, _∙_}
 use mathlib.Core.Logic.{⊎-elim}
 use mathlib.Core.Bool.{true}
 use mathlib.Core.List.{List, _++_, map, Memᴰ·cast, Memᴰ·map, Memᴰ·of-map}
 use mathlib.Core.List.{List·Memᴰ, List·Memᴰ·append-cases}
 use Prim.Native.Nat.{ℕ}
 use Rattle.meaning.specs.Counting.{Position, below}
-use Rattle.meaning.proofs.Steps.{below-refl, below-trans, below-antisym}
+use Rattle.meaning.proofs.Steps.{below-trans, below-antisym}
 use Rattle.meaning.proofs.Lists.{flatMap-member, member-flatMap}
 use Rattle.counts.specs.Cells.{lesserCounts}
 use Rattle.sets.specs.Tops.{tops, meets}
-use Rattle.sets.proofs.Counts.{lesser-length, lesser-mono}
+use Rattle.counts.proofs.Lesser.{lesser-length}
 use Rattle.sets.proofs.Kept.{Sized, Covered, member-tops, tops-kept, tops-only}
 use Rattle.sets.proofs.Climb.{tops-cover}
 
@@ -49,6 +48,11 @@ member-meets Fs Gs H m =
     let s = Memᴰ·of-map (lesserCounts (r .0)) Gs (r .2) in
     (r .0, s .0, r .1, s .1, sym (s .2))
 
+pub meets-within : (Es Fs Gs Hs : List Position) → ((F : Position) → List·Memᴰ F Es → List·Memᴰ F Fs) → ((F : Position) → List·Memᴰ F Gs → List·Memᴰ F Hs)
+    → (F : Position) → List·Memᴰ F (meets Es Gs) → List·Memᴰ F (meets Fs Hs)
+meets-within Es Fs Gs Hs left right F m =
+    let p = member-meets Es Gs F m in Memᴰ·cast (p .4) (meets-member Fs Hs (p .0) (p .1) (left (p .0) (p .2)) (right (p .1) (p .3)))
+
 pub meets-sized : (n : ℕ) (Fs Gs : List Position) → Sized n Fs → Sized n (meets Fs Gs)
 meets-sized n Fs Gs s H m = let r = member-meets Fs Gs H m in rw (r .4, lesser-length (r .0) (r .1)) (s (r .0) (r .2))
 
@@ -57,22 +61,3 @@ append-sized n Fs Gs s r F m = ⊎-elim (λ k. s F k) (λ k. r F k) (List·Mem�
 
 pub tops-sized : (n : ℕ) (Fs : List Position) → Sized n Fs → Sized n (tops Fs)
 tops-sized n Fs s F m = s F (member-tops Fs F m)
-
--- thinning first changes nothing
-pub meets-thinned : (n : ℕ) (Fs Gs : List Position) → Sized n Fs → tops (meets Fs (tops Gs)) ≡ tops (meets Fs Gs)
-meets-thinned n Fs Gs s =
-    tops-same n (meets Fs (tops Gs)) (meets Fs Gs) (meets-sized n Fs (tops Gs) s) (meets-sized n Fs Gs s) whole thin
-  where
-    whole : (H : Position) → List·Memᴰ H (meets Fs (tops Gs)) → Covered (meets Fs Gs) H
-    whole H m =
-        let p = member-meets Fs (tops Gs) H m in
-        (H, Memᴰ·cast (p .4) (meets-member Fs Gs (p .0) (p .1) (p .2) (member-tops Gs (p .1) (p .3))), below-refl H)
-
-    thin : (H : Position) → List·Memᴰ H (meets Fs Gs) → Covered (meets Fs (tops Gs)) H
-    thin H m =
-        let p = member-meets Fs Gs H m in
-        let c = tops-cover Gs (p .1) (p .3) in (
-          lesserCounts (p .0) (c .0),
-          meets-member Fs (tops Gs) (p .0) (c .0) (p .2) (c .1),
-          ap (λ (x : Position). below x (lesserCounts (p .0) (c .0))) (p .4) ∙ lesser-mono (p .0) (p .1) (c .0) (c .2),
-        )

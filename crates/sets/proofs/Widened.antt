@@ -13,7 +13,7 @@ use Rattle.meaning.proofs.Ascending.{Ascending, none, more}
 use Rattle.counts.specs.Cells.{lesserCounts}
 use Rattle.counts.proofs.Wide.{wide-length, below-wide, before-wide}
 use Rattle.sets.specs.Tops.{tops, meets}
-use Rattle.sets.proofs.Counts.{wide-lesser}
+use Rattle.counts.proofs.Lesser.{wide-lesser}
 use Rattle.sets.proofs.Kept.{Sized, Covered, member-tops, tops-kept, tops-only}
 use Rattle.sets.proofs.Climb.{tops-cover}
 use Rattle.sets.proofs.Thinned.{tops-sized}

@@ -1,18 +1,20 @@
-// The maximal ones of two lists together, and of the lesser counts of their pairs. A candidate that a
-// kept member covers is passed over; any other is climbed to a maximal one and put in its place. So
-// each kept member is a maximal one, and the room's next one is FULL.
-use crate::list;
-use counts::position;
+// The maximal ones of the lesser counts of all pairs of two lists, and of two lists together. A
+// candidate that a kept position covers is passed over; any other is climbed to a maximal one and
+// kept. So each kept one is maximal, and the room's next one is FULL.
+use crate::words;
+use counts::word;
 ghost use mathlib.Core.Path.{_≡_};
 ghost use mathlib.Core.Bool.{true};
-ghost use mathlib.Core.List.{_++_, map};
-ghost use Prim.Native.Nat.{_≤_};
+ghost use mathlib.Core.List.{[], map, reverse};
+ghost use Prim.Native.Nat.{_≤_, _-_};
 ghost use lib.ListN.{length};
+ghost use Rattle.meaning.specs.Lists.{keep};
 ghost use Rattle.meaning.specs.Counting.{below};
-ghost use Rattle.counts.specs.Cells.{cells, lesserCounts};
-ghost use Rattle.sets.specs.Tops.{tops as topsOf, meets};
-ghost use Rattle.sets.specs.Members.{members, Holds};
-ghost use Rattle.sets.specs.Climb.{climbed, collected};
+ghost use Rattle.counts.specs.Cells.{lesserCounts};
+ghost use Rattle.sets.specs.Tops.{meets, thinned};
+ghost use Rattle.counts.specs.Words.{countsIn};
+ghost use Rattle.sets.specs.Members.{words as wordsOf, HoldsWords};
+ghost use Rattle.sets.specs.Climb.{climbed, collected, covering, uncovered, rowsOf, paired, united};
 
 // How many members a list came to, or that there were more than the room.
 pub enum Found {
@@ -20,33 +22,74 @@ pub enum Found {
     Full,
 }
 
-// Where a position climbs to by one run over a list.
-fn climb(p: [i8; 8], set: &[[i8; 8]]) -> [i8; 8]
-    ensures { λ r. ⌜ cells r ≡ climbed (map cells (now (set .entry))) (cells p) ⌝ }
+// Those of the first n that no other of them is above, the last first.
+pub fn thin(set: &[u64], n: usize, out: &mut [u64]) -> usize
+    requires { ⌜ (n ≤ length (now set)) × (n ≤ length (now out)) ⌝ }
+    ensures { λ r. ⌜ (r ≤ n) × (wordsOf (now (out .exit)) r ≡ thinned (wordsOf (now (set .entry)) n)) ⌝ }
 {
-    let mut top = p;
+    let mut kept = 0;
+    let mut i = n;
+    while 0 < i {
+        i -= 1;
+        kept = words::keep_top(out, kept, set[i]);
+    }
+    kept
+}
+
+// Those of the lesser counts of x and each of the first n that no other of them is above.
+fn row(x: u64, ys: &[u64], n: usize, out: &mut [u64]) -> usize
+    requires { ⌜ (n ≤ length (now ys)) × (n ≤ length (now out)) ⌝ }
+    ensures { λ r. ⌜ (r ≤ n) × (wordsOf (now (out .exit)) r ≡ thinned (reverse (map (lesserCounts (countsIn x)) (wordsOf (now (ys .entry)) n)))) ⌝ }
+{
+    let mut kept = 0;
+    let mut j = 0;
+    while j < n {
+        kept = words::keep_top(out, kept, word::lesser(x, ys[j]));
+        j += 1;
+    }
+    kept
+}
+
+// Parts the first n by whether another list covers them, and gives how many it covers.
+fn part(
+    set: &[u64],
+    n: usize,
+    others: &[u64],
+    m: usize,
+    covered: &mut [u64],
+    rest: &mut [u64],
+) -> usize
+    requires { ⌜ (n ≤ length (now set)) × (m ≤ length (now others)) × (n ≤ length (now covered)) × (n ≤ length (now rest)) ⌝ }
+    ensures { λ r. ⌜ (r ≤ n)
+        × (wordsOf (now (covered .exit)) r ≡ keep (covering (wordsOf (now (others .entry)) m)) (wordsOf (now (set .entry)) n))
+        × (wordsOf (now (rest .exit)) (n - r) ≡ keep (uncovered (wordsOf (now (others .entry)) m)) (wordsOf (now (set .entry)) n)) ⌝ }
+{
+    let mut held = 0;
     let mut i = 0;
-    while i < set.len() {
-        let m = set[i];
-        if position::below(&top, &m) {
-            top = m;
+    while i < n {
+        let p = set[i];
+        if words::covers(others, m, p) {
+            covered[held] = p;
+            held += 1;
+        } else {
+            rest[i - held] = p;
         }
         i += 1;
     }
-    top
+    held
 }
 
 // Where a position below x climbs to by one run over the lesser counts of x and each of a list.
-fn climb_with(p: [i8; 8], x: &[i8; 8], ys: &[[i8; 8]]) -> [i8; 8]
-    requires { ⌜ below (cells p) (cells (now x)) ≡ true ⌝ }
-    ensures { λ r. ⌜ cells r ≡ climbed (map (lesserCounts (cells (now (x .entry)))) (map cells (now (ys .entry)))) (cells p) ⌝ }
+fn climb_with(p: u64, x: u64, ys: &[u64]) -> u64
+    requires { ⌜ below (countsIn p) (countsIn x) ≡ true ⌝ }
+    ensures { λ r. ⌜ countsIn r ≡ climbed (map (lesserCounts (countsIn x)) (map countsIn (now (ys .entry)))) (countsIn p) ⌝ }
 {
     let mut top = p;
     let mut j = 0;
     while j < ys.len() {
         let y = ys[j];
-        if position::below(&top, &y) {
-            top = position::lesser(x, &y);
+        if word::below(top, y) {
+            top = word::lesser(x, y);
         }
         j += 1;
     }
@@ -54,147 +97,138 @@ fn climb_with(p: [i8; 8], x: &[i8; 8], ys: &[[i8; 8]]) -> [i8; 8]
 }
 
 // Where a position climbs to by one run over the lesser counts of all pairs.
-fn climb_pairs(p: [i8; 8], xs: &[[i8; 8]], ys: &[[i8; 8]]) -> [i8; 8]
-    ensures { λ r. ⌜ cells r ≡ climbed (meets (map cells (now (xs .entry))) (map cells (now (ys .entry)))) (cells p) ⌝ }
+fn climb_pairs(p: u64, xs: &[u64], ys: &[u64]) -> u64
+    ensures { λ r. ⌜ countsIn r ≡ climbed (meets (map countsIn (now (xs .entry))) (map countsIn (now (ys .entry)))) (countsIn p) ⌝ }
 {
     let mut top = p;
     let mut i = 0;
     while i < xs.len() {
         let x = xs[i];
-        if position::below(&top, &x) {
-            top = climb_with(top, &x, ys);
+        if word::below(top, x) {
+            top = climb_with(top, x, ys);
         }
         i += 1;
     }
     top
 }
 
-// Goes over the pairs of one x, and puts to the `kept` members of `out` what they climb to.
-fn keep_pairs(
-    x: &[i8; 8],
-    xs: &[[i8; 8]],
-    ys: &[[i8; 8]],
-    out: &mut [[i8; 8]],
+// Goes over the first n candidates, and adds to the `kept` positions of `out` what they climb to.
+fn keep_row(
+    row: &[u64],
+    n: usize,
+    xs: &[u64],
+    ys: &[u64],
+    out: &mut [u64],
     kept: usize,
     room: usize,
 ) -> Found
-    requires { ⌜ (kept ≤ room) × (room ≤ length (now out)) ⌝ }
-    ensures { λ r. ⌜ Holds room (collected (meets (map cells (now (xs .entry))) (map cells (now (ys .entry)))) (members (now (out .entry)) kept)
-        (map (lesserCounts (cells (now (x .entry)))) (map cells (now (ys .entry))))) (now (out .exit)) r ⌝ }
+    requires { ⌜ (n ≤ length (now row)) × (kept ≤ room) × (room ≤ length (now out)) ⌝ }
+    ensures { λ r. ⌜ HoldsWords room (collected (meets (map countsIn (now (xs .entry))) (map countsIn (now (ys .entry)))) (wordsOf (now (out .entry)) kept)
+        (wordsOf (now (row .entry)) n)) (now (out .exit)) r ⌝ }
 {
-    let mut n = kept;
+    let mut number = kept;
     let mut j = 0;
-    'pairs: while j < ys.len() {
-        let y = ys[j];
+    'candidates: while j < n {
+        let p = row[j];
         j += 1;
-        let pair = position::lesser(x, &y);
         // the scan for a dominating member
-        let mut i = 0;
-        while i < n {
-            let m = out[i];
-            if position::below(&pair, &m) {
-                continue 'pairs;
+        let mut i = number;
+        while 0 < i {
+            i -= 1;
+            if word::below(p, out[i]) {
+                continue 'candidates;
             }
-            i += 1;
         }
-        if n == room {
+        if number == room {
             return Found::Full;
         }
-        let top = climb_pairs(pair, xs, ys);
-        list::put(out, n, &top);
-        n += 1;
+        out[number] = climb_pairs(p, xs, ys);
+        number += 1;
     }
-    Found::Number(n)
+    Found::Number(number)
 }
 
-// The maximal ones of the lesser counts of all pairs of two lists.
-pub fn pairs(
-    a: &[[i8; 8]],
-    an: usize,
-    e: &[[i8; 8]],
-    en: usize,
-    out: &mut [[i8; 8]],
+// Goes over the first n, and adds to the `kept` positions of `out` those that none of them covers.
+fn keep_list(set: &[u64], n: usize, out: &mut [u64], kept: usize, room: usize) -> Found
+    requires { ⌜ (n ≤ length (now set)) × (kept ≤ room) × (room ≤ length (now out)) ⌝ }
+    ensures { λ r. ⌜ HoldsWords room (collected [] (wordsOf (now (out .entry)) kept) (wordsOf (now (set .entry)) n)) (now (out .exit)) r ⌝ }
+{
+    let mut number = kept;
+    let mut i = 0;
+    while i < n {
+        let p = set[i];
+        i += 1;
+        if words::covers(out, number, p) {
+            continue;
+        }
+        if number == room {
+            return Found::Full;
+        }
+        out[number] = p;
+        number += 1;
+    }
+    Found::Number(number)
+}
+
+// Goes over the rows of the pairs of two lists, each with the rows after it to climb.
+fn keep_rows(
+    xs: &[u64],
+    xn: usize,
+    ys: &[u64],
+    yn: usize,
+    out: &mut [u64],
+    kept: usize,
     room: usize,
 ) -> Found
-    requires { ⌜ (an ≤ length (now a)) × (en ≤ length (now e)) × (room ≤ length (now out)) ⌝ }
-    ensures { λ r. ⌜ Holds room (topsOf (meets (members (now (a .entry)) an) (members (now (e .entry)) en))) (now (out .exit)) r ⌝ }
+    requires { ⌜ (xn ≤ length (now xs)) × (yn ≤ length (now ys)) × (yn ≤ 256) × (kept ≤ room) × (room ≤ length (now out)) ⌝ }
+    ensures { λ r. ⌜ HoldsWords room (rowsOf (wordsOf (now (xs .entry)) xn) (wordsOf (now (ys .entry)) yn) (wordsOf (now (out .entry)) kept)) (now (out .exit)) r ⌝ }
 {
-    let xs = &a[..an];
-    let ys = &e[..en];
-    let mut n = 0;
+    let mut tops = [0u64; 256];
+    let mut number = kept;
     let mut i = 0;
-    while i < an {
-        let x = a[i];
+    while i < xn {
+        let x = xs[i];
         i += 1;
-        let found = keep_pairs(&x, xs, ys, out, n, room);
+        let n = row(x, ys, yn, &mut tops);
+        let found = keep_row(&tops, n, &xs[i..xn], &ys[..yn], out, number, room);
         let Found::Number(more) = found else {
             return Found::Full;
         };
-        n = more;
+        number = more;
     }
-    Found::Number(n)
+    Found::Number(number)
 }
 
-// Goes over one of two lists, and puts to the `kept` members of `out` what it climbs to over both.
-fn keep_list(
-    set: &[[i8; 8]],
-    xs: &[[i8; 8]],
-    ys: &[[i8; 8]],
-    out: &mut [[i8; 8]],
-    kept: usize,
-    room: usize,
-) -> Found
-    requires { ⌜ (kept ≤ room) × (room ≤ length (now out)) ⌝ }
-    ensures { λ r. ⌜ Holds room (collected (map cells (now (xs .entry)) ++ map cells (now (ys .entry))) (members (now (out .entry)) kept)
-        (map cells (now (set .entry)))) (now (out .exit)) r ⌝ }
+// The maximal ones of the lesser counts of all pairs of two lists. A position that the other list
+// covers is a pair itself, and its other pairs are below it: what is left to pair are the rest.
+pub fn pairs(a: &[u64], an: usize, e: &[u64], en: usize, out: &mut [u64], room: usize) -> Found
+    requires { ⌜ (an ≤ length (now a)) × (an ≤ 256) × (en ≤ length (now e)) × (en ≤ 256) × (room ≤ length (now out)) × (256 ≤ length (now out)) ⌝ }
+    ensures { λ r. ⌜ HoldsWords room (paired (wordsOf (now (a .entry)) an) (wordsOf (now (e .entry)) en)) (now (out .exit)) r ⌝ }
 {
-    let mut n = kept;
-    let mut i = 0;
-    while i < set.len() {
-        let m = set[i];
-        i += 1;
-        if list::covers(out, n, &m) {
-            continue;
-        }
-        if n == room {
-            return Found::Full;
-        }
-        let reached = climb(climb(m, xs), ys);
-        list::put(out, n, &reached);
-        n += 1;
+    let mut xs = [0u64; 256];
+    let whole = part(a, an, e, en, out, &mut xs);
+    if room < whole {
+        return Found::Full;
     }
-    Found::Number(n)
-}
-
-// The maximal ones of two lists together.
-pub fn together(
-    a: &[[i8; 8]],
-    an: usize,
-    e: &[[i8; 8]],
-    en: usize,
-    out: &mut [[i8; 8]],
-    room: usize,
-) -> Found
-    requires { ⌜ (an ≤ length (now a)) × (en ≤ length (now e)) × (room ≤ length (now out)) ⌝ }
-    ensures { λ r. ⌜ Holds room (topsOf (members (now (a .entry)) an ++ members (now (e .entry)) en)) (now (out .exit)) r ⌝ }
-{
-    let xs = &a[..an];
-    let ys = &e[..en];
-    let found = keep_list(xs, xs, ys, out, 0, room);
+    let mut fits = [0u64; 256];
+    let mut ys = [0u64; 256];
+    let fitting = part(e, en, a, an, &mut fits, &mut ys);
+    let found = keep_list(&fits, fitting, out, whole, room);
     let Found::Number(n) = found else {
         return Found::Full;
     };
-    keep_list(ys, xs, ys, out, n, room)
+    keep_rows(&xs, an - whole, &ys, en - fitting, out, n, room)
 }
 
-// The maximal ones of one list: at most as many as it has, so it is never full.
-pub fn thin(set: &[[i8; 8]], n: usize, out: &mut [[i8; 8]]) -> usize
-    requires { ⌜ (n ≤ length (now set)) × (n ≤ length (now out)) ⌝ }
-    ensures { λ r. ⌜ (r ≤ n) × (members (now (out .exit)) r ≡ topsOf (members (now (set .entry)) n)) ⌝ }
+// The maximal ones of two lists together.
+pub fn together(b: &[u64], bn: usize, e: &[u64], en: usize, out: &mut [u64], room: usize) -> Found
+    requires { ⌜ (bn ≤ length (now b)) × (bn ≤ 256) × (en ≤ length (now e)) × (room ≤ length (now out)) × (256 ≤ length (now out)) ⌝ }
+    ensures { λ r. ⌜ HoldsWords room (united (wordsOf (now (b .entry)) bn) (wordsOf (now (e .entry)) en)) (now (out .exit)) r ⌝ }
 {
-    let found = together(set, 0, set, n, out, n);
-    let Found::Number(tops) = found else {
-        return 0;
-    };
-    tops
+    let mut covered = [0u64; 256];
+    let gone = part(b, bn, e, en, &mut covered, out);
+    if room < bn - gone {
+        return Found::Full;
+    }
+    keep_list(e, en, out, bn - gone, room)
 }

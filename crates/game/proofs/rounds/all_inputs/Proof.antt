@@ -12,6 +12,7 @@ use Rattle.table.specs.Packed.{tableIn}
 use Rattle.sets.specs.Engine.{listA}
 use Rattle.sets.specs.Members.{members, Holds}
 use Rattle.sets.proofs.Members.{members-store}
+use Rattle.sets.proofs.Rounded.{ready-low, listA-ready}
 use Rattle.game.specs.Rounds.{widestA}
 use Rattle.game.proofs.Runs.{Runs, runs-none, runs-more, runs-whole, runs-full}
 use Rattle.game.proofs.rounds.all_inputs.Statement.{statement}
@@ -61,7 +62,20 @@ add-input c = search needs
 cut-requires : tie.Need-cut-requires Inv-loop μ-loop
 cut-requires c κs =
     let at = c .before .before .before .before in
-    (omega arith, omega arith, omega arith, omega (arith, as-long (at .before)), omega arith, omega (arith, as-long (at .before)))
+    let given = at .before .before .args in
+    let ready = listA-ready (given .k) (tableIn (given .table)) (members (given .w .now) (given .wn)) (at .loop .input) in
+    let runs = at .loop .inv .1 in (
+      (
+        omega arith,
+        omega arith,
+        omega arith,
+        omega (arith, runs .within),
+        omega (arith, runs .within, runs .long, as-long (at .before)),
+        omega arith,
+        omega (arith, runs .long, as-long (at .before)),
+      ),
+      (rw (runs .holds) (ready-low (given .k) _ (omega arith) ready), rw (runs .holds) (ready .own)),
+    )
 
 enum-known-found : tie.Need-enum-known-found Inv-loop μ-loop
 enum-known-found c = search needs

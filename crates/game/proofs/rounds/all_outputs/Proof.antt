@@ -8,6 +8,7 @@ use borrow.Author.Needs.{needs}
 use Rattle.table.specs.Packed.{tableIn}
 use Rattle.sets.specs.Engine.{listB}
 use Rattle.sets.specs.Members.{members, Holds}
+use Rattle.sets.proofs.Rounded.{ready-low, listB-ready}
 use Rattle.game.specs.Rounds.{widestB}
 use Rattle.game.proofs.Runs.{Runs, runs-none, runs-more, runs-whole, runs-full}
 use Rattle.game.proofs.rounds.all_outputs.Statement.{statement}
@@ -42,7 +43,14 @@ add-output : tie.Need-add-output Inv-loop μ-loop
 add-output c = search needs
 
 widen-requires : tie.Need-widen-requires Inv-loop μ-loop
-widen-requires c κs = search needs
+widen-requires c κs =
+    let at = c .before .before .before .before in
+    let given = at .before .args in
+    let ready = listB-ready (given .k) (tableIn (given .table)) (members (given .v .now) (given .vn)) (at .loop .output) in
+    let runs = at .loop .inv .1 in (
+      (omega arith, omega arith, omega arith, omega (arith, runs .within), omega (arith, runs .within, runs .long), omega arith, omega (arith, runs .long)),
+      (rw (runs .holds) (ready-low (given .k) _ (omega arith) ready), rw (runs .holds) (ready .own)),
+    )
 
 enum-known-found : tie.Need-enum-known-found Inv-loop μ-loop
 enum-known-found c = search needs

@@ -44,7 +44,7 @@ mul-if1 : tie.Need-mul-if1 Inv-loop μ-loop
 mul-if1 c = omega (arith, mul-le-mul {n₂ = 256} {m₂ = 256} (c .pre .0) (c .pre .1))
 
 returns : tie.Need-returns Inv-loop μ-loop
-returns c = holds-full (rw (number (c .before)) (c .if1 .taken))
+returns c = holds-full _ (rw (number (c .before)) (c .if1 .taken))
 
 loop-holds : tie.Need-loop-holds Inv-loop μ-loop
 unfolding members allBeside flatMap
@@ -93,7 +93,7 @@ returns-2 c =
     let all : head .loop .i ≡ start .args .an = omega arith in
     let held = rw all at (head .loop .inv .3) in
     let end : head .loop .end ≡ start .args .an * start .args .bn = rw all at (head .loop .inv .2) in
-    holds-number (omega (arith, end, head .before .if1 .left)) (omega (arith, end, head .before .if1 .left, head .loop .inv .1)) held
+    holds-number _ (omega (arith, end, head .before .if1 .left)) (omega (arith, end, head .before .if1 .left, head .loop .inv .1)) held
 
 pub pairs-spec : {M : Type 1} → statement M
 pairs-spec =

@@ -1,55 +1,81 @@
--- `thin`: the tops of no list and the list are its tops, and there are no more of them than it has members. Assumes nothing.
+-- `thin`: the loop's invariant is that the first i positions thinned onto those kept are the list thinned; each turn takes the last of them. There are
+-- no more kept ones than positions passed. The measure is the number of positions left. Assumes nothing.
+use mathlib.Core.Path.{_≡_, refl, sym, ap, _∙_}
+use mathlib.Core.List.{[], _∷_, foldr, foldr-append}
+use Prim.Native.Nat.{_+_, _≤_, _-_}
 use native.Mathlib.Omega.{arith}
 use borrow.Author.Needs.{needs}
-use Rattle.sets.specs.Members.{members}
-use Rattle.sets.proofs.Members.{members-length, full-held, number-held}
-use Rattle.sets.proofs.Kept.{tops-length}
+use lib.ListN.{length, getD}
+use Rattle.sets.specs.Tops.{thinOne, thinned}
+use Rattle.counts.specs.Words.{countsIn}
+use Rattle.sets.specs.Members.{words}
+use Rattle.sets.proofs.Members.{words-last}
 use Rattle.sets.proofs.tops.thin.Statement.{statement}
 use Rattle.sets.proofs.tops.thin.Tie as tie
 
-together-requires : tie.Need-together-requires
-together-requires c κs = search needs
+abbrev Inv-loop : tie.InvT-loop
+Inv-loop set n out₀ kept₀ i₀ out kept i =
+    (kept + i ≤ n) × (length out ≡ length out₀) × (foldr thinOne (words out kept) (words set i) ≡ thinned (words set n))
 
-enum-known-found : tie.Need-enum-known-found
-enum-known-found c = search needs
+abbrev μ-loop : tie.MeasureT-loop
+μ-loop set n out₀ kept₀ i₀ out kept i = i
 
-enum-told : tie.Need-enum-told
-enum-told c = search needs
+loop-holds : tie.Need-loop-holds Inv-loop μ-loop
+unfolding words thinned
+loop-holds c = (omega arith, refl, refl)
 
-same-length : tie.Need-same-length
+sub-i : tie.Need-sub-i Inv-loop μ-loop
+sub-i c = search needs
+
+mul-keep-top : tie.Need-mul-keep-top Inv-loop μ-loop
+mul-keep-top c = search needs
+
+shared-slice-read-keep-top : tie.Need-shared-slice-read-keep-top Inv-loop μ-loop
+shared-slice-read-keep-top c = search needs
+
+keep-top-requires : tie.Need-keep-top-requires Inv-loop μ-loop
+keep-top-requires c κs = search needs
+
+loop-less : tie.Need-loop-less Inv-loop μ-loop
+loop-less c = search needs
+
+loop-again : tie.Need-loop-again Inv-loop μ-loop
+loop-again c =
+    let called = c .before .before in
+    let turn = called .before .before .before in
+    let at = turn .before in
+    let all = at .before .before .before .args .set .now in
+    let i = at .loop .i in
+    let kept = words (at .loop .out) (at .loop .kept) in (
+      omega (arith, called .keep-top .ensures .0),
+      called .keep-top .kept .0 ∙ at .loop .inv .1,
+      rw (called .keep-top .ensures .1)
+          (sym (foldr-append thinOne kept (words all (i - 1)) (countsIn (getD all (i - 1) 0) ∷ []))
+          ∙ ap (foldr thinOne kept) (sym (words-last all i (turn .loop-test .taken) (omega arith))) ∙ at .loop .inv .2),
+    )
+
+same-length : tie.Need-same-length Inv-loop μ-loop
 same-length c = search needs
 
-returns : tie.Need-returns
-unfolding members
+returns : tie.Need-returns Inv-loop μ-loop
+unfolding words
 returns c =
-    let called = c .before .before .before in
-    let given = called .before .before .args in
-    let all = members (given .set .now) (given .n) in
-    absurd (omega (
-      arith,
-      full-held (called .together .ensures) (c .enum-told .given .1),
-      tops-length all,
-      members-length (given .set .now) (given .n) (omega arith),
-    ))
-
-same-length-2 : tie.Need-same-length-2
-same-length-2 c = search needs
-
-returns-2 : tie.Need-returns-2
-unfolding members
-returns-2 c =
-    let called = c .before .before .before .before in
-    let given = called .before .before .args in
-    number-held (called .together .ensures) (c .before .found .given .1)
+    let at = c .before in
+    let e : at .loop .i ≡ 0 = omega arith in
+    (omega arith, rw e at (at .loop .inv .2))
 
 pub thin-spec : {M : Type 1} → statement M
 thin-spec =
     tie.close
     (tie.spec
-    together-requires
-    enum-known-found
-    enum-told
+    Inv-loop
+    μ-loop
+    loop-holds
+    sub-i
+    mul-keep-top
+    shared-slice-read-keep-top
+    keep-top-requires
+    loop-less
+    loop-again
     same-length
-    returns
-    same-length-2
-    returns-2)
+    returns)

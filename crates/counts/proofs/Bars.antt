@@ -1,0 +1,186 @@
+-- The bars of a step back. The or of two words has the or of their counts (`or-counts`), by induction on the bytes. So a bar, or'ed with a word that has one
+-- count in every byte, leaves that count to the sources with an edge and the highest to the others; and the least of these over the targets, from the most
+-- that is safe, is the step back (`lowered-whole`), count by count. Assumes nothing.
+use mathlib.Core.Path.{_≡_, refl, sym, ap, _∙_}
+use mathlib.Core.Bool.{Bool, true, false, cond}
+use mathlib.Core.List.{List, [], _∷_, map}
+use Prim.Native.Nat.{ℕ, zero, suc, _+_, _*_, _-_, _/_, _%_, _^_, _≤_, _<_, min}
+use native.Mathlib.Nat.{le-refl}
+use native.Mathlib.Decide.{decLt}
+use native.Mathlib.Numerals.{add-one}
+use native.Mathlib.Omega.{arith}
+use borrow.Author.Tests.{lt-ltb, le-ltb}
+use lib.Bits.{bitAnd, bitOr, and-mask, and-comm, or-add-and, or-shr, or-mod, or-zero-l}
+use lib.Dec.{ltb}
+use lib.IntN.{ℤ}
+use lib.ListN.{length, getD, length-map}
+use Rattle.meaning.specs.Lists.{tab, smallest}
+use Rattle.meaning.specs.Table.{bit}
+use Rattle.meaning.specs.Counting.{Position, count, back}
+use Rattle.meaning.specs.Written.{positionBytes}
+use Rattle.meaning.proofs.Tests.{smallest-top}
+use Rattle.meaning.proofs.Lists.{tab-length, tab-at, tab-beyond, tab-same, tab-getD, map-at}
+use Rattle.meaning.proofs.Steps.{same-counts, leaves, back-at}
+use Rattle.counts.specs.Cells.{cell, cells, lesserCounts, halfOf}
+use Rattle.counts.specs.declared.position.Half.{Half}
+use Rattle.counts.proofs.Cells.{cells-at}
+use Rattle.counts.proofs.Edges.{bit-tested, bit-beyond, within, smallest-next, smallest-within}
+use Rattle.counts.proofs.Halves.{back-none}
+use Rattle.counts.proofs.Wide.{wide-length, wide-at}
+use Rattle.counts.specs.Words.{countsBefore, countsIn, barCounts}
+use Rattle.counts.proofs.Lesser.{lesser-at}
+use Rattle.counts.proofs.Bytes.{countsIn-length, bytes, Packed, packed-none, packed-next, packed-whole}
+
+-- an or of two numbers is the or of their counts
+or-before : (n a b : ℕ) (F G H : Position) → ((p : ℕ) → count H p ≡ bitOr (count F p) (count G p))
+    → (p : ℕ) → count (countsBefore n (bitOr a b) H) p ≡ bitOr (count (countsBefore n a F) p) (count (countsBefore n b G) p)
+unfolding countsBefore
+or-before zero a b F G H h = h
+or-before (suc n) a b F G H h =
+    rw (or-shr a b 8) (or-before n (a / 256) (b / 256) (a % 128 ∷ F) (b % 128 ∷ G) (bitOr a b % 128 ∷ H) go)
+  where
+    go : (p : ℕ) → count (bitOr a b % 128 ∷ H) p ≡ bitOr (count (a % 128 ∷ F) p) (count (b % 128 ∷ G) p)
+    go zero = or-mod a b 7
+    go (suc p) = h p
+
+or-counts : (a b p : ℕ) → count (countsIn (bitOr a b)) p ≡ bitOr (count (countsIn a) p) (count (countsIn b) p)
+unfolding countsIn
+or-counts a b p = or-before 8 a b [] [] [] (λ _. refl) p
+
+-- the bar of target q: its counts, by the code's test of each source's bit
+abbrev barred : List ℕ → ℕ → ℕ → ℕ
+barred masks q p = cond (bit (getD masks p 0) q) 0 127
+
+module _ (masks : List ℕ) (q : ℕ) where
+  pub bar-length : length (barCounts masks q) ≡ 8
+  unfolding barCounts
+  bar-length = tab-length 8 (barred masks q)
+
+  bar-at : (p : ℕ) → p < 8 → count (barCounts masks q) p ≡ barred masks q p
+  unfolding barCounts
+  bar-at p l = tab-at 8 (barred masks q) p 0 l
+
+  pub bar-set : (p : ℕ) → p < 8 → q < 8 → (bitAnd (getD masks p 0 / 2 ^ q) 1 ≡ 0 → ⊥) → count (barCounts masks q) p ≡ 0
+  bar-set p l h n =
+      let mask = getD masks p 0 in
+      let odd : bitAnd (mask / 2 ^ q) 1 ≡ 1 = omega (arith, n, and-mask (mask / 2 ^ q) 1) in
+      bar-at p l ∙ rw (← bit-tested mask q h, odd)
+
+  pub bar-unset : (p : ℕ) → p < 8 → q < 8 → bitAnd (getD masks p 0 / 2 ^ q) 1 ≡ 0 → count (barCounts masks q) p ≡ 127
+  bar-unset p l h e = bar-at p l ∙ rw (← bit-tested (getD masks p 0) q h, e)
+
+-- an array of eight words with the bars as its counts, word by word and as a whole
+module _ (masks words : List ℕ) where
+  pub bars-whole : length words ≡ 8 → ((q : ℕ) → q < 8 → countsIn (getD words q 0) ≡ barCounts masks q) → map countsIn words ≡ tab 8 (barCounts masks)
+  bars-whole long e =
+      let n : length (map countsIn words) ≡ 8 = length-map words countsIn ∙ long in
+      sym (tab-getD (map countsIn words) []) ∙ rw n
+      (tab-same 8 (λ q. getD (map countsIn words) q []) (barCounts masks) (λ q l. map-at countsIn words q 0 [] (omega arith) ∙ e q l))
+
+  pub bars-at : map countsIn words ≡ tab 8 (barCounts masks) → (q : ℕ) → q < 8 → countsIn (getD words q 0) ≡ barCounts masks q
+  bars-at e q l =
+      let long : length words ≡ 8 = sym (length-map words countsIn) ∙ ap length e in
+      sym (map-at countsIn words q 0 [] (omega arith)) ∙ ap (λ (all : List Position). getD all q []) e ∙ tab-at 8 (barCounts masks) q [] l
+
+-- one in each byte, and so a count in every byte
+abbrev ones : ℕ
+ones = 72340172838076673
+
+packed-all : (e n : ℕ) → e ≤ 127 → n ≤ 8 → Packed (tab 8 (λ _. e)) n (bytes n e)
+packed-all e zero h l = packed-none (tab 8 (λ _. e))
+packed-all e (suc n) h l =
+    let F = tab 8 (λ _. e) in
+    rw (add-one n) at (packed-next F n (bytes n e) (packed-all e n h (omega arith)) e refl (omega arith) h (tab-at 8 (λ _. e) n 0 (omega arith)))
+
+all-counts : (e p : ℕ) → e ≤ 127 → p < 8 → count (countsIn (e * ones)) p ≡ e
+all-counts e p h l =
+    let spread : e * ones ≡ bytes 8 e = omega arith in
+    let F = tab 8 (λ _. e) in
+    ap (λ (w : ℕ). count (countsIn w) p) spread ∙ ap (λ (G : Position). count G p) (packed-whole F 8 (bytes 8 e) (packed-all e 8 h (le-refl 8)) refl (le-refl 8))
+    ∙ tab-at 8 (λ _. e) p 0 l
+
+-- the highest count takes in every other, and no count none
+highest-or : (e : ℕ) → e ≤ 127 → bitOr 127 e ≡ 127
+highest-or e h =
+    let all : bitAnd 127 e ≡ e % 128 = and-comm 127 e ∙ and-mask e 7 in
+    omega (arith, all, or-add-and 127 e, h)
+
+over-bar : (b : Bool) (e : ℕ) → e ≤ 127 → bitOr (cond b 0 127) e ≡ cond b e 127
+over-bar true e h = or-zero-l e
+over-bar false e h = highest-or e h
+
+-- what target q leaves to source p: its count less its mark over an edge, at most the highest, and the highest where there is none
+abbrev offered : Half → List ℤ → ℕ → ℕ → ℕ
+offered half m p q = cond (bit (getD (half .masks) p 0) q) (min (cell m q - getD (half .marks) q 0) 127) 127
+
+offered-counts : (half : Half) (m : List ℤ) (word e p q : ℕ) → countsIn word ≡ barCounts (half .masks) q
+    → e ≡ min (cell m q - getD (half .marks) q 0) 127 → p < 8 → count (countsIn (bitOr word (e * ones))) p ≡ offered half m p q
+offered-counts half m word e p q bar count-is l =
+    let under : e ≤ 127 = omega arith in
+    let at : count (countsIn word) p ≡ barred (half .masks) q p = ap (λ (F : Position). count F p) bar ∙ bar-at (half .masks) q p l in
+    or-counts word (e * ones) p ∙ rw (at, all-counts e p under l) (over-bar (bit (getD (half .masks) p 0) q) e under ∙ rw count-is)
+
+-- a word whose counts are the least of the most and of what the targets before q leave
+abbrev pub Lowered : Half → List ℤ → ℕ → ℕ → ℕ → Type 0
+Lowered half m most q low =
+    (p : ℕ) → p < 8 → count (countsIn low) p
+    ≡ smallest (count (countsIn most) p) q (within (half .targets) (count (countsIn most) p) (offered half m p))
+
+module _ (half : Half) (m : List ℤ) (most q low : ℕ) (before : Lowered half m most q low) where
+  -- one more target, by its bar and its count in every byte
+  pub lowered-by : (word e r : ℕ) → q < half .targets → countsIn word ≡ barCounts (half .masks) q → e ≡ min (cell m q - getD (half .marks) q 0) 127
+      → countsIn r ≡ lesserCounts (countsIn low) (countsIn (bitOr word (e * ones))) → Lowered half m most (q + 1) r
+  lowered-by word e r inside bar count-is lesser p l =
+      let top = count (countsIn most) p in
+      let all = bitOr word (e * ones) in
+      ap (λ (F : Position). count F p) lesser ∙ lesser-at (countsIn low) (countsIn all) p ∙ rw (before p l, offered-counts half m word e p q bar count-is l)
+      (sym (smallest-next top (within (half .targets) top (offered half m p)) q (offered half m p q) (rw (lt-ltb q (half .targets) inside))))
+
+  -- beyond the side there is none
+  pub lowered-still : half .targets ≤ q → Lowered half m most (q + 1) low
+  lowered-still beyond p l =
+      let top = count (countsIn most) p in
+      let f = within (half .targets) top (offered half m p) in
+      omega (arith, before p l, smallest-top top q f, smallest-next top f q top (rw (le-ltb q (half .targets) beyond)))
+
+-- numbers that are alike up to the top have the same smallest
+smallest-alike : (top n : ℕ) (f g : ℕ → ℕ) → ((i : ℕ) → i < n → min top (f i) ≡ min top (g i)) → smallest top n f ≡ smallest top n g
+smallest-alike top zero f g h = refl
+smallest-alike top (suc n) f g h =
+    omega (arith, smallest-alike top n f g (λ i l. h i (omega arith)), smallest-top top n f, h n (omega arith))
+
+either-alike : (b : Bool) (top x y z w : ℕ) → min top x ≡ min top y → min top z ≡ min top w → min top (cond b x z) ≡ min top (cond b y w)
+either-alike true top x y z w h k = h
+either-alike false top x y z w h k = k
+
+-- what all eight targets leave to the sources, from the most that is safe, is the step back
+module _ (half : Half) (m : List ℤ) (K : ℕ) (small : K ≤ 7) where
+  offered-least : (p : ℕ) → p < half .sources
+      → smallest (K + 1) 8 (within (half .targets) (K + 1) (offered half m p)) ≡ count (back K (halfOf half) (cells m)) p
+  unfolding halfOf
+  offered-least p l =
+      let left = leaves K (halfOf half) (cells m) p in
+      smallest-alike (K + 1) 8 (within (half .targets) (K + 1) (offered half m p)) (within (half .targets) (K + 1) left)
+      (λ q b. either-alike (ltb q (half .targets)) (K + 1) _ _ (K + 1) (K + 1)
+      (either-alike (bit (getD (half .masks) p 0) q) (K + 1) _ _ 127 (K + 1) (rw (cells-at m q b) (omega arith)) (omega arith)) refl)
+      ∙ smallest-within 8 (half .targets) left (K + 1) (λ q b. rw (bit-beyond (getD (half .masks) p 0) q b))
+      ∙ sym (back-at K (halfOf half) (cells m) p l)
+
+  pub lowered-whole : (most low : ℕ) → countsIn most ≡ positionBytes (tab (halfOf half .sources) (λ _. K + 1)) → Lowered half m most 8 low
+      → countsIn low ≡ positionBytes (back K (halfOf half) (cells m))
+  unfolding halfOf
+  lowered-whole most low full least =
+      let new = back K (halfOf half) (cells m) in
+      same-counts (countsIn low) (positionBytes new) (countsIn-length low ∙ sym (wide-length new))
+      (λ p b. let l : p < 8 = rw (countsIn-length low) at b in
+      least p l ∙ go p (decLt p (half .sources)) (ap (λ (F : Position). count F p) full ∙ wide-at (tab (half .sources) (λ _. K + 1)) p l)
+      ∙ sym (wide-at new p l))
+    where
+      go : (p : ℕ) → Dec (p < half .sources) → count (countsIn most) p ≡ count (tab (half .sources) (λ _. K + 1)) p
+          → smallest (count (countsIn most) p) 8 (within (half .targets) (count (countsIn most) p) (offered half m p))
+          ≡ count (back K (halfOf half) (cells m)) p
+      go p (yes l) e = rw (e, tab-at (half .sources) (λ _. K + 1) p 0 l) (offered-least p l)
+      go p (no l) e =
+          let none : half .sources ≤ p = omega arith in
+          rw (e, tab-beyond (half .sources) (λ _. K + 1) p 0 none)
+          (omega (arith, smallest-top 0 8 (within (half .targets) 0 (offered half m p)), back-none K half m p none))

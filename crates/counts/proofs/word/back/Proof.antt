@@ -1,0 +1,110 @@
+-- `back`: the loop's invariant is that the counts of `low` are the least of the most and of what the targets before q leave. A turn takes the lesser of
+-- them and of the target's count less its mark, in every byte, under its bar; beyond the side nothing is left. At 8 that is the step back, since no mask
+-- has a target from 8 on. The measure is the number of targets left. Assumes nothing.
+use mathlib.Core.Path.{_≡_, refl}
+use mathlib.Core.Logic.{⊎-elim}
+use Prim.Native.Nat.{_≤_, _-_, min}
+use native.Mathlib.Omega.{arith}
+use borrow.Author.Needs.{needs}
+use lib.IntN.{pos}
+use lib.ListN.{getD}
+use Rattle.meaning.specs.Counting.{oneHigher}
+use Rattle.counts.specs.Cells.{cell}
+use Rattle.counts.proofs.Signed.{from-bits}
+use Rattle.counts.proofs.Bars.{bars-at, Lowered, lowered-by, lowered-still, lowered-whole}
+use Rattle.counts.proofs.word.back.Statement.{statement}
+use Rattle.counts.proofs.word.back.Tie as tie
+
+abbrev Inv-loop : tie.InvT-loop
+Inv-loop m bars most half low₀ q₀ low q = (q ≤ 8) × Lowered half m most q low
+
+abbrev μ-loop : tie.MeasureT-loop
+μ-loop m bars most half low₀ q₀ low q = 8 - q
+
+loop-holds : tie.Need-loop-holds Inv-loop μ-loop
+loop-holds c = (omega arith, λ p _. refl)
+
+element-copy-out-less : tie.Need-element-copy-out-less Inv-loop μ-loop
+element-copy-out-less c = search needs
+
+element-copy-out-less-2 : tie.Need-element-copy-out-less-2 Inv-loop μ-loop
+element-copy-out-less-2 c = search needs
+
+less-requires : tie.Need-less-requires Inv-loop μ-loop
+less-requires c κs = search needs
+
+lesser-requires : tie.Need-lesser-requires Inv-loop μ-loop
+lesser-requires c κs = search needs
+
+to-byte-requires : tie.Need-to-byte-requires Inv-loop μ-loop
+to-byte-requires c κs = search needs
+
+cast-all : tie.Need-cast-all Inv-loop μ-loop
+cast-all c = search needs
+
+mul-all : tie.Need-mul-all Inv-loop μ-loop
+mul-all c = search needs
+
+mul-lesser : tie.Need-mul-lesser Inv-loop μ-loop
+mul-lesser c = search needs
+
+element-copy-out-lesser : tie.Need-element-copy-out-lesser Inv-loop μ-loop
+element-copy-out-lesser c = search needs
+
+lesser-requires-2 : tie.Need-lesser-requires-2 Inv-loop μ-loop
+lesser-requires-2 c κs = search needs
+
+add-q : tie.Need-add-q Inv-loop μ-loop
+add-q c = search needs
+
+loop-less : tie.Need-loop-less Inv-loop μ-loop
+loop-less c = search needs
+
+loop-again : tie.Need-loop-again Inv-loop μ-loop
+loop-again c =
+    let at = c .before .before in
+    let q = at .loop .q in
+    let given = at .before .args in
+    let half = given .t2 in
+    let m = given .m .now in
+    let low = at .loop .low in
+    let before = at .loop .inv .1 in (
+      omega arith,
+      ⊎-elim
+          (λ w. let eased : oneHigher (w .3 .result) ≡ cell m q - getD (half .marks) q 0 = rw (from-bits (getD m q (pos 0)) (w .1 .given)) at (w .3 .ensures) in
+          let capped : oneHigher (w .4 .result) ≡ min (oneHigher (w .3 .result)) 127 = rw (from-bits (w .3 .result) (w .3 .ok)) at (w .4 .ensures) in
+          let byte : w .5 .result ≡ oneHigher (w .4 .result) = rw (from-bits (w .4 .result) (w .4 .ok)) at (w .5 .ensures) in
+          rw (w .8) (lowered-by half m (given .most) q low before (getD (given .bars .now) q 0) (w .5 .result) (w .7 .result) (w .0 .taken)
+          (bars-at (half .masks) (given .bars .now) (at .before .pre) q (omega arith)) (omega arith) (w .7 .ensures)))
+          (λ w. rw (w .1) (lowered-still half m (given .most) q low before (w .0 .left)))
+          (c .if1 .came),
+    )
+
+returns : tie.Need-returns Inv-loop μ-loop
+returns c K small full =
+    let at = c .before in
+    let given = at .before .args in
+    let whole : at .loop .q ≡ 8 = omega arith in
+    lowered-whole (given .t2) (given .m .now) K small (given .most) (at .loop .low) full (rw whole at (at .loop .inv .1))
+
+pub back-spec : {M : Type 1} → statement M
+back-spec =
+    tie.close
+    (tie.spec
+    Inv-loop
+    μ-loop
+    loop-holds
+    element-copy-out-less
+    element-copy-out-less-2
+    less-requires
+    lesser-requires
+    to-byte-requires
+    cast-all
+    mul-all
+    mul-lesser
+    element-copy-out-lesser
+    lesser-requires-2
+    add-q
+    loop-less
+    loop-again
+    returns)

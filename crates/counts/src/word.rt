@@ -1,0 +1,130 @@
+// One position in a 64-bit word: a byte for each of its eight counts, one higher, the first in the
+// highest. A byte's top bit is no part of its count, so all eight are compared by one subtraction.
+use crate::count;
+use crate::position::Half;
+ghost use mathlib.Core.Path.{_≡_};
+ghost use mathlib.Core.List.{map};
+ghost use mathlib.Core.Bool.{true};
+ghost use Prim.Native.Nat.{_<_};
+ghost use lib.Dec.{leb};
+ghost use Rattle.meaning.specs.Lists.{before as beforeBytes, every, tab};
+ghost use Rattle.meaning.specs.Counting.{below as belowAll, back as backBy};
+ghost use Rattle.meaning.specs.Written.{positionBytes};
+ghost use Rattle.counts.specs.Cells.{cells, lesserCounts, halfOf};
+ghost use Rattle.counts.specs.Words.{countsIn, flags, barCounts, FromMost};
+
+// The top bit of each byte, and the bits below it.
+const TOPS: u64 = 0x8080_8080_8080_8080;
+
+const COUNTS: u64 = 0x7F7F_7F7F_7F7F_7F7F;
+// One in each byte.
+const ONES: u64 = 0x0101_0101_0101_0101;
+
+// Eight counts of at most 126, in a word.
+pub fn pack(m: &[i8; 8]) -> u64
+    requires { ⌜ every (λ c. leb c 127) (cells (now m)) ≡ true ⌝ }
+    ensures { λ r. ⌜ countsIn r ≡ cells (now (m .entry)) ⌝ }
+{
+    let mut word = 0u64;
+    let mut q = 0;
+    while q < 8 {
+        word = word * 256 + count::to_byte(m[q]) as u64;
+        q += 1;
+    }
+    word
+}
+
+// The counts of a word.
+pub fn unpack(word: u64) -> [i8; 8]
+    ensures { λ r. ⌜ cells r ≡ countsIn word ⌝ }
+{
+    let mut out = [-1i8; 8];
+    let mut left = word;
+    let mut q = 8;
+    while 0 < q {
+        q -= 1;
+        out[q] = count::from_byte((left % 128) as u8);
+        left = left / 256;
+    }
+    out
+}
+
+// In the top bit of each byte whether the one's count is at most the other's. A byte with its top
+// bit set lends nothing from the next, whatever count is taken off.
+fn at_most(a: u64, b: u64) -> u64
+    ensures { λ r. ⌜ r ≡ flags 8 a b ⌝ }
+{
+    ((b | TOPS) - (a & COUNTS)) & TOPS
+}
+
+// Whether each count of one position is at most the other's.
+pub fn below(a: u64, b: u64) -> bool
+    ensures { λ r. ⌜ r ≡ belowAll (countsIn a) (countsIn b) ⌝ }
+{
+    at_most(a, b) == TOPS
+}
+
+// The lesser counts of two positions: the bytes of one where its count is at most the other's, and
+// else the other's.
+pub fn lesser(a: u64, b: u64) -> u64
+    ensures { λ r. ⌜ countsIn r ≡ lesserCounts (countsIn a) (countsIn b) ⌝ }
+{
+    let mask = at_most(a, b) / 128 * 255;
+    (a & mask) | (b - (b & mask))
+}
+
+// Whether one position comes before another, ascending as byte strings.
+pub fn before(a: u64, b: u64) -> bool
+    ensures { λ r. ⌜ r ≡ beforeBytes (countsIn a) (countsIn b) ⌝ }
+{
+    (a & COUNTS) < (b & COUNTS)
+}
+
+// For one target: no count where the source has an edge to it, and the highest where it has none.
+fn bar(half: Half, q: usize) -> u64
+    requires { ⌜ q < 8 ⌝ }
+    ensures { λ r. ⌜ countsIn r ≡ barCounts (half .masks) q ⌝ }
+{
+    let mut word = 0u64;
+    let mut p = 0;
+    while p < 8 {
+        word = word * 256;
+        if (half.masks[p] >> q) & 1 == 0 {
+            word += 127;
+        }
+        p += 1;
+    }
+    word
+}
+
+// The bars of all eight targets.
+pub fn bars(half: Half) -> [u64; 8]
+    ensures { λ r. ⌜ map countsIn r ≡ tab 8 (barCounts (half .masks)) ⌝ }
+{
+    let mut out = [0u64; 8];
+    let mut q = 0;
+    while q < 8 {
+        out[q] = bar(half, q);
+        q += 1;
+    }
+    out
+}
+
+// The step back by a letter: from the most that is safe to the least that each target leaves to its
+// sources, all of them at once.
+pub fn back(m: &[i8; 8], half: Half, bars: &[u64; 8], most: u64) -> u64
+    requires { ⌜ map countsIn (now bars) ≡ tab 8 (barCounts (half .masks)) ⌝ }
+    ensures { λ r. ⌜ FromMost (halfOf half) most (λ K. countsIn r ≡ positionBytes (backBy K (halfOf half) (cells (now (m .entry))))) ⌝ }
+{
+    let mut low = most;
+    let mut q = 0;
+    while q < 8 {
+        if q < half.targets {
+            let eased = count::lesser(count::less(m[q], half.marks[q]), 126);
+            let all = count::to_byte(eased) as u64 * ONES;
+            low = lesser(low, bars[q] | all);
+        }
+        q += 1;
+    }
+    low
+}
