@@ -1,200 +1,27 @@
-// Calls of the solver: document 01's own, and those on three hard tables.
-use crate::OWED;
+// Calls of the solver: document 01's own, those on three hard tables, and one of each kind.
 use crate::print;
+use crate::tables::FIRST;
+use crate::tables::OWED;
+use crate::tables::SILENT;
+ghost use mathlib.Core.Path.{_≡_};
+ghost use mathlib.Core.Bool.{cond};
+ghost use lib.Dec.{eqb};
+ghost use Rattle.io.specs.Counts.{Counts};
+ghost use Rattle.meaning.specs.Answers.{codeOf, join as joinOf};
 
-// SILENT of document 01, a digit a byte.
-const SILENT: [u8; 48] = [
-    1,
-    0,
-    2,
-    0,
-    1,
-    1,
-    0,
-    0,
-    2,
-    0,
-    0,
-    0,
-    2,
-    1,
-    1,
-    0,
-    3,
-    0,
-    0,
-    0,
-    3,
-    0,
-    1,
-    1,
-    3,
-    1,
-    0,
-    1,
-    3,
-    1,
-    1,
-    1,
-    4,
-    0,
-    0,
-    0,
-    4,
-    0,
-    1,
-    0,
-    4,
-    1,
-    0,
-    1,
-    4,
-    1,
-    1,
-    1,
-];
-
-// FIRST of document 01, a digit a byte.
-const FIRST: [u8; 24] = [
-    1,
-    0,
-    3,
-    0,
-    1,
-    1,
-    0,
-    0,
-    2,
-    0,
-    0,
-    0,
-    3,
-    0,
-    0,
-    0,
-    3,
-    1,
-    0,
-    0,
-    4,
-    0,
-    0,
-    1,
-];
-
-// OWED joined with SILENT, whose states move up by 2 on each side.
-const JOINED: [u8; 100] = [
-    1,
-    0,
-    2,
-    0,
-    1,
-    1,
-    0,
-    0,
-    1,
-    2,
-    2,
-    0,
-    1,
-    3,
-    0,
-    0,
-    2,
-    0,
-    0,
-    0,
-    2,
-    1,
-    1,
-    0,
-    2,
-    2,
-    0,
-    0,
-    2,
-    3,
-    1,
-    0,
-    3,
-    0,
-    0,
-    0,
-    3,
-    0,
-    1,
-    0,
-    3,
-    1,
-    0,
-    1,
-    3,
-    1,
-    1,
-    0,
-    3,
-    2,
-    0,
-    2,
-    3,
-    2,
-    1,
-    3,
-    3,
-    3,
-    0,
-    3,
-    3,
-    3,
-    1,
-    3,
-    4,
-    0,
-    0,
-    0,
-    4,
-    0,
-    1,
-    0,
-    4,
-    0,
-    1,
-    1,
-    4,
-    1,
-    0,
-    1,
-    4,
-    1,
-    1,
-    1,
-    4,
-    2,
-    0,
-    2,
-    4,
-    2,
-    1,
-    2,
-    4,
-    3,
-    0,
-    3,
-    4,
-    3,
-    1,
-    3,
-];
-
-// C1, C2, C4 and C6 to C11 of document 01, with its K and N.
+// C1 to C12 of document 01, with its K and N.
 pub fn document() {
     let owed = OWED;
     let silent = SILENT;
-    let joined = JOINED;
     let first = FIRST;
     small(b"C1", &owed, 0, 1);
     small(b"C2", &silent, 0, 1);
-    small(b"C4", &joined, 0, 1);
+    let mut both = [9u8; 4160];
+    let n = joined(b"OWED joined SILENT", &owed, &silent, &mut both);
+    print::records(&both[..n]);
+    small(b"C3", &both[..n], 0, 2);
+    small(b"C4", &both[..n], 0, 1);
+    parts(b"C5", &owed, &silent, 0, 2);
     small(b"C6", &first, 0, 1);
     small(b"C7", &owed, 8, 1);
     small(b"C8", &owed, 7, 0);
@@ -204,6 +31,7 @@ pub fn document() {
     exchanged[50] = 0;
     small(b"C10", &exchanged, 0, 2);
     small(b"C11", &owed[..48], 0, 2);
+    parts(b"C12", &owed, &first, 0, 2);
 }
 
 // Three hard tables at K 7, at the rooms where their answers change.
@@ -217,12 +45,36 @@ pub fn hard() {
 }
 
 // A call with buffers of 9s for two positions.
-fn small(name: &[u8], table: &[u8], k: usize, room: usize) {
+pub fn small(name: &[u8], table: &[u8], k: usize, room: usize) {
     let mut winners = [9u8; 16];
     let mut controller = [9u8; 64];
     let answer = game::solve(table, k, room, &mut winners, &mut controller);
     let rules = table::read::read(table);
     print::call(name, answer, rules.inputs, &winners, &controller);
+}
+
+// Two tables by parts, with buffers of 9s for four positions.
+pub fn parts(name: &[u8], first: &[u8], second: &[u8], k: usize, room: usize) {
+    let mut winners = [9u8; 32];
+    let mut controller = [9u8; 128];
+    let answer = join::parts(first, second, k, room, &mut winners, &mut controller);
+    let rules = table::read::read(first);
+    print::call(name, answer, rules.inputs, &winners, &controller);
+}
+
+// Joins two tables into a lent buffer of 9s, and answers how many bytes that wrote.
+pub fn joined(name: &[u8], first: &[u8], second: &[u8], out: &mut [u8]) -> usize
+    ensures bytes { λ n. ⌜ now (out .exit) ≡ joinOf (now (first .entry)) (now (second .entry)) (now (out .entry)) .outAfter ⌝ }
+    ensures number { λ n. ⌜ (let answer = joinOf (now (first .entry)) (now (second .entry)) (now (out .entry)) .answer in n ≡ cond (eqb (codeOf (answer .verdict)) 0) (answer .place) 0) ⌝ }
+    ensures within { λ n. ⌜ Counts n (now (out .exit)) ⌝ }
+{
+    let answer = join::join(first, second, out);
+    print::joined(name, answer, out);
+    let verdict = answer.verdict;
+    if meaning::code(verdict) != 0 {
+        return 0;
+    }
+    answer.place
 }
 
 // A call at K 7 on the table in a file, with buffers of 9s for 256 positions.

@@ -1,66 +1,14 @@
-// Runs tables of each refusal through the checks and prints code and place; then document 01's calls
-// and three hard tables, and prints answers and bytes. What it prints is held to the stored output.
+// Runs tables of each refusal through the checks and prints code and place; then document 01's calls,
+// three hard tables, and joins and parts, and prints answers and bytes. What it prints is held to the
+// stored output.
 mod calls;
+mod joins;
 mod print;
+mod tables;
 
+use crate::tables::OWED;
 use libc::STDOUT_FILENO;
 use table::Checked;
-
-// OWED of document 01, a digit a byte.
-const OWED: [u8; 52] = [
-    1,
-    0,
-    2,
-    0,
-    1,
-    1,
-    0,
-    0,
-    2,
-    0,
-    0,
-    0,
-    2,
-    1,
-    1,
-    0,
-    3,
-    0,
-    0,
-    0,
-    3,
-    0,
-    1,
-    0,
-    3,
-    1,
-    0,
-    1,
-    3,
-    1,
-    1,
-    0,
-    4,
-    0,
-    0,
-    0,
-    4,
-    0,
-    1,
-    0,
-    4,
-    0,
-    1,
-    1,
-    4,
-    1,
-    0,
-    1,
-    4,
-    1,
-    1,
-    1,
-];
 
 // Prints a table's name, and code and place of what its checks come to; 0 and 0 for a good one.
 fn show(name: &[u8], bytes: &[u8]) {
@@ -143,4 +91,7 @@ fn main() {
     wholes();
     calls::document();
     calls::hard();
+    joins::grouped();
+    joins::with_itself();
+    joins::full();
 }

@@ -20,6 +20,19 @@ pub fn call(name: &[u8], answer: Answer, inputs: usize, winners: &[u8], controll
     io::write_all(STDOUT_FILENO, b"\n");
 }
 
+// A join's name and the answer's fields, and how many 9s stand at the end of its buffer.
+pub fn joined(name: &[u8], answer: Answer, out: &[u8]) {
+    io::write_all(STDOUT_FILENO, name);
+    fields(answer);
+    field(b"9s left at the end: ", nines(out));
+    io::write_all(STDOUT_FILENO, b"\n");
+}
+
+// A table's bytes as numbers, a record a line.
+pub fn records(bytes: &[u8]) {
+    lines(bytes, bytes.len() / 4, 4);
+}
+
 // One field, by its name.
 fn field(name: &[u8], value: usize) {
     io::write_all(STDOUT_FILENO, name);
