@@ -71,9 +71,9 @@ and-counts n a = and-byte a (bytes n 127) 127 (omega arith) ∙ omega (arith, an
 or-tops : (n b : ℕ) → bitOr b (bytes (suc n) 128) ≡ bitOr (b / 256) (bytes n 128) * 256 + (128 + b % 128)
 or-tops n b = or-byte b (bytes n 128) 128 (omega arith) ∙ omega (arith, or-top (b % 256) (omega arith))
 
--- no byte lends from the next
-pub no-lending : (n a b : ℕ) → bitAnd a (bytes n 127) ≤ bitOr b (bytes n 128)
-no-lending n a b =
+-- no byte borrows from the next
+pub no-borrowing : (n a b : ℕ) → bitAnd a (bytes n 127) ≤ bitOr b (bytes n 128)
+no-borrowing n a b =
     omega (arith, and-le-r a (bytes n 127), bytes-le n 127 128 (omega arith), or-add-and b (bytes n 128), and-le-l b (bytes n 128))
 
 -- the top bit that one byte is left with
@@ -91,7 +91,7 @@ difference-flags (suc n) a b =
     let high = bitOr (b / 256) (bytes n 128) - bitAnd (a / 256) (bytes n 127) in
     let low = 128 + b % 128 - a % 128 in
     let apart : bitOr b (bytes (suc n) 128) - bitAnd a (bytes (suc n) 127) ≡ high * 256 + low
-    = omega (arith, or-tops n b, and-counts n a, no-lending n (a / 256) (b / 256)) in
+    = omega (arith, or-tops n b, and-counts n a, no-borrowing n (a / 256) (b / 256)) in
     ap (λ x. bitAnd x (bytes (suc n) 128)) apart
     ∙ and-block 8 high (bytes n 128) low 128 (omega arith) (omega arith)
     ∙ ap₂ (λ x y. x * 256 + y) (difference-flags n (a / 256) (b / 256)) (top-left (a % 128) (b % 128) (omega arith) (omega arith))

@@ -12,7 +12,7 @@ use lib.Dec.{ltb, eqb}
 use lib.ListN.{length}
 use Rattle.meaning.specs.Lists.{before, tab}
 use Rattle.meaning.specs.Table.{Half}
-use Rattle.meaning.specs.Counting.{Position, count, below, safe, forward, back}
+use Rattle.meaning.specs.Counting.{Position, count, below, forward, back}
 use Rattle.meaning.specs.Written.{positionBytes}
 use Rattle.meaning.proofs.Tests.{refuted, largest-same, smallest-same, same-test}
 use Rattle.meaning.proofs.Lists.{tab-same}

@@ -50,7 +50,7 @@ pub fn unpack(word: u64) -> [i8; 8]
 }
 
 // In the top bit of each byte whether the one's count is at most the other's. A byte with its top
-// bit set lends nothing from the next, whatever count is taken off.
+// bit set borrows nothing from the next, whatever count is taken off.
 fn at_most(a: u64, b: u64) -> u64
     ensures { λ r. ⌜ r ≡ flags 8 a b ⌝ }
 {

@@ -103,26 +103,33 @@ passes-fit which bytes p =
 
 -- checks 11 and 12 of a stage
 module _ {K : ℕ} {t : Table} {X : Set} {N : ℕ} {out : List (List ℤ)} {settled : Settled} (settles : Settles K t X N out settled) where
+  -- FULL, whatever a call makes of it
+  pub stage-full : {A : Type 0} (which : ℕ) (refuse : Check → A) (grant : A) → settled ≡ FullAfter
+      → judge (stageChecks which K N t X) refuse grant ≡ refuse (check Full 0 which true)
+  unfolding stageChecks
+  stage-full which refuse grant f = rw (full-settled settles f)
+
   pub settled-full : settled ≡ FullAfter → (which : ℕ) (win con : List ℕ) (grant : Solved) → {answer : Answer}
       → answer ≡ refused (check Full 0 which true) → leaves answer win con ≡ judge (stageChecks which K N t X) (unsolved win con) grant
-  unfolding stageChecks unsolved
-  settled-full f which win con grant e = rw (e, full-settled settles f)
+  unfolding unsolved
+  settled-full f which win con grant e = rw (e, stage-full which (unsolved win con) grant f)
 
-  module _ {r n : ℕ} (e : settled ≡ After r n) (fit : Fit t) (first : FirstSet K t X) where
-    -- the list of winners may be finished
-    pub settled-playable : K ≤ 7 → N ≤ 256 → Playable K t (members out n)
-    settled-playable k h =
-        let (_, _, number, list, few) = after-settled settles e in
-        rw list (listed-playable K t X (fit .small) first (fit .good) k (fit .outputs) (fit .inputs) (omega arith))
+  module _ {r n : ℕ} (e : settled ≡ After r n) (first : FirstSet K t X) where
+    -- the list of winners is finished, and that is what is left to judge
+    pub settled-finished : Small t → (which : ℕ) (win con : List ℕ)
+        → finished K t (members out n) r win con ≡ judge (stageChecks which K N t X) (unsolved win con) (solvedFrom K t X win con)
+    settled-finished small which win con =
+        let (roomy, rounds, _, list, _) = after-settled settles e in
+        rw (list, rounds) (stage-finished K t X small first win con which N roomy)
 
-    module _ (win con : List ℕ) where
-      pub settled-roomy : room N win con .failed ≡ false → Roomy (members out n) win con
-      settled-roomy p =
+    module _ (fit : Fit t) where
+      -- it may be finished
+      pub settled-playable : K ≤ 7 → N ≤ 256 → Playable K t (members out n)
+      settled-playable k h =
+          let (_, _, number, list, few) = after-settled settles e in
+          rw list (listed-playable K t X (fit .small) first (fit .good) k (fit .outputs) (fit .inputs) (omega arith))
+
+      pub settled-roomy : (win con : List ℕ) → room N win con .failed ≡ false → Roomy (members out n) win con
+      settled-roomy win con p =
           let (_, _, number, list, few) = after-settled settles e in
           rw list (listed-roomy K t X (fit .small) first win con N p (omega arith))
-
-      -- and that is what is left to judge
-      pub settled-finished : (which : ℕ) → finished K t (members out n) r win con ≡ judge (stageChecks which K N t X) (unsolved win con) (solvedFrom K t X win con)
-      settled-finished which =
-          let (roomy, rounds, _, list, _) = after-settled settles e in
-          rw (list, rounds) (stage-finished K t X (fit .small) first win con which N roomy)

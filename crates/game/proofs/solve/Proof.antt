@@ -150,8 +150,8 @@ finish-requires c κs =
     let within = room-within (given .room) (now (given .winners)) (now (given .controller)) (room-passes passed) in
     let first = allSafe-first (given .k) t in (
       omega (arith, after-settled (stage-settles called) (settled .settled .given .1) .4, within .1, called .settle-all .kept .1 .1 .1 .0),
-      rw (same-table (called .before .before)) (settled-playable (stage-settles called) (settled .settled .given .1) fit first (passed .before .before .if1 .left) (within .1)),
-      settled-roomy (stage-settles called) (settled .settled .given .1) fit first (now (given .winners)) (now (given .controller)) (room-passes passed),
+      rw (same-table (called .before .before)) (settled-playable (stage-settles called) (settled .settled .given .1) first fit (passed .before .before .if1 .left) (within .1)),
+      settled-roomy (stage-settles called) (settled .settled .given .1) first fit (now (given .winners)) (now (given .controller)) (room-passes passed),
     )
 
 same-length : tie.Need-same-length
@@ -171,7 +171,7 @@ returns-5 c =
     let t = stated (now (given .table)) in
     let fit = passes-fit 0 (now (given .table)) (table-passes told) in
     (rw (same-table (called .before .before)) at (finished .finish .ensures))
-    ∙ settled-finished (stage-settles called) (settled .settled .given .1) fit (allSafe-first (given .k) t) (now (given .winners)) (now (given .controller)) 0
+    ∙ settled-finished (stage-settles called) (settled .settled .given .1) (allSafe-first (given .k) t) (fit .small) 0 (now (given .winners)) (now (given .controller))
     ∙ sym (stage-left told)
 
 pub solve-spec : {M : Type 1} → statement M

@@ -18,7 +18,8 @@ use Rattle.game.proofs.Settled.{after-settled}
 use Rattle.join.specs.Beside.{allBeside}
 use Rattle.join.specs.Parts.{FirstPairs}
 use Rattle.join.proofs.Paired.{none-fails, joinable}
-use Rattle.join.proofs.Settles.{refusal-leaves, room-given}
+use Rattle.game.proofs.Stage.{room-within}
+use Rattle.join.proofs.Settles.{refusal-leaves}
 use Rattle.join.proofs.Stages.{pairs-listed, first-full, second-full, pairs-full, pairs-passed}
 use Rattle.join.proofs.stage.in_turn.Statement.{statement}
 use Rattle.join.proofs.stage.in_turn.Tie as tie
@@ -29,7 +30,7 @@ passes c = none-fails (pairChecks (now (c .args .first)) (now (c .args .second))
 
 -- the room is 1 to 256
 room : (c : tie.Start) → (1 ≤ c .args .room) × (c .args .room ≤ 256)
-room c = room-given (c .args .room) (now (c .args .winners)) (now (c .args .controller)) (c .pre .1)
+room c = room-within (c .args .room) (now (c .args .winners)) (now (c .args .controller)) (c .pre .1)
 
 -- the first table's number of states
 states : (c : tie.After-read) →

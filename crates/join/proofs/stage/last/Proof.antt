@@ -24,7 +24,8 @@ use Rattle.game.proofs.Listed.{listed-roomy}
 use Rattle.join.specs.Joined.{joinedBytes}
 use Rattle.join.specs.Parts.{lastStage}
 use Rattle.join.proofs.Paired.{none-fails, joinable}
-use Rattle.join.proofs.Settles.{stage-full, stage-settled, refusal-leaves, room-given}
+use Rattle.game.proofs.Stage.{room-within, stage-full, settled-finished}
+use Rattle.join.proofs.Settles.{refusal-leaves}
 use Rattle.join.proofs.Stages.{joined-read, joined-small, pairs-begin, pairs-covered, pairs-list, joined-playable}
 use Rattle.join.proofs.stage.last.Statement.{statement}
 use Rattle.join.proofs.stage.last.Tie as tie
@@ -88,7 +89,7 @@ settle-requires c κs =
     let start = c .before .before .before .before .before .before .before .before .before .before in
     let one = now (start .args .first) in
     let two = now (start .args .second) in
-    let room = room-given (start .args .room) (now (start .args .winners)) (now (start .args .controller)) (start .pre .0 .1) in
+    let room = room-within (start .args .room) (now (start .args .winners)) (now (start .args .controller)) (start .pre .0 .1) in
     rw (table-read (c .before))
     (search needs, search needs, room .0, room .1, search needs, pairs-list one two (passes start) (start .args .k) (members (now (start .args .list)) (start .args .n)) (start .pre .1 .1))
 
@@ -124,7 +125,7 @@ finish-requires c κs =
     let two = now (start .args .second) in
     let k = start .args .k in
     let (roomy, _, number, held, few) = after-settled (rounds-settled call) (known .settled .given .1) in
-    let room = room-given (start .args .room) (now (start .args .winners)) (now (start .args .controller)) (start .pre .0 .1) in
+    let room = room-within (start .args .room) (now (start .args .winners)) (now (start .args .controller)) (start .pre .0 .1) in
     rw (table-read (call .before .before), held) (
       omega (arith, few, room .1, call .settle .kept .1 .1 .1 .1 .1 .0),
       joined-playable one two (passes start) k (start .pre .0 .0) (omega (arith, number, few, room .1)),
@@ -148,7 +149,7 @@ returns-2 c =
     let one = now (start .args .first) in
     let two = now (start .args .second) in
     (rw (table-read (call .before .before)) at (finish .finish .ensures))
-    ∙ stage-settled (rounds-settled call) (known .settled .given .1) (pairs-begin one two (passes start) (start .args .k)) (joined-small one two (passes start)) 0
+    ∙ settled-finished (rounds-settled call) (known .settled .given .1) (pairs-begin one two (passes start) (start .args .k)) (joined-small one two (passes start)) 0
     (now (start .args .winners)) (now (start .args .controller))
 
 pub last-spec : {M : Type 1} → statement M
