@@ -122,15 +122,24 @@ stand_in() { # WORD..
 
 # ---- the scripts as text
 
+# Every script of the repository: a file whose first line names a shell.
+scripts() {
+    find "$root" \( -name .git -o -name target -o -name crates \) -prune -o -type f -exec awk '
+        FNR == 1 && /^#!.*sh$/ { print FILENAME }' {} +
+}
+
 test_scripts() {
-    for script in desk tools/program tests/desk.sh; do
-        holds "sh can read $script" sh -n "$root/$script"
+    scripts | sort >"$scratch/scripts"
+    holds "the scripts are found" grep -qxF "$root/test" "$scratch/scripts"
+    while IFS= read -r script; do
+        path=${script#"$root/"}
+        holds "sh can read $path" sh -n "$script"
         if command -v shellcheck >/dev/null; then
-            holds "shellcheck finds nothing in $script" shellcheck -s sh "$root/$script"
+            holds "shellcheck finds nothing in $path" shellcheck "$script"
         else
-            skip "shellcheck is not installed: $script"
+            skip "shellcheck is not installed: $path"
         fi
-    done
+    done <"$scratch/scripts"
 }
 
 test_card() {
