@@ -160,7 +160,7 @@ test_calls() {
     says "no file named" 2 "Name one file with a table"
     call "$root/desk" one two
     says "two files named" 2 "Name one file with a table"
-    call "$root/desk" --program
+    call "$root/desk" --plain
     says "an option and no file" 2 "Name one file with a table"
     call "$root/desk" --colour "$root/tables/owed.table"
     says "an option that is not there, and a file" 2 "./desk --help"
@@ -193,7 +193,7 @@ as_bytes() { printf %b "$(sed 's/./\\00&/g' | tr -d '\n')"; }
 
 reaches_the_program() { # NAME FILE
     rm -f "$scratch/received"
-    stand_in --program "$2"
+    stand_in "$2"
     if [ "$status" -eq 0 ] && cmp -s "$scratch/received" "$scratch/owed.bytes"; then
         pass "$1"
     else
@@ -210,6 +210,8 @@ test_text() {
     reaches_the_program "digits with blanks" "$scratch/blanks"
     owed_records | awk '{ printf "\t%s \t# record %d: 9999\n\n  # 1234\n", $0, NR }' >"$scratch/comments"
     reaches_the_program "comments, blank lines and tabs" "$scratch/comments"
+    owed_records | awk '{ printf "%s # gr\303\274n\n", $0 }' >"$scratch/letters"
+    reaches_the_program "comments with letters of any language" "$scratch/letters"
     owed_records | awk '{ printf "%s\r\n", $0 }' >"$scratch/returns"
     reaches_the_program "lines that end in a return and a newline" "$scratch/returns"
     owed_records | awk '{ printf "%s%s", (NR > 1 ? "\n" : ""), $0 }' >"$scratch/unended"
@@ -238,10 +240,10 @@ test_bad_text() {
     refused_text "a fifth digit" '1 0 2 0 0  # five' '1 0 2 0 0  # five' "has more than four digits"
     refused_text "two records on a line" '1020 1100' '1020 1100' "has more than four digits"
     refused_text "a digit short" '102 # three' '102 # three' "has fewer than four digits"
-    refused_text "a letter that is not plain, in a comment" '1100 # gr??n' '1100 # gr\303\274n' \
-        "has a character that is not plain text"
-    refused_text "a control character" '1100?[2J' '1100\033[2J' "has a character that is not plain text"
-    refused_text "a return within a line" '11?00' '11\r00' "has a character that is not plain text"
+    refused_text "a blank that is not plain" '1100??# note' '1100\302\240# note' "has something other than digits in its record"
+    refused_text "a control character" '1100?[2J' '1100\033[2J' "has a control character"
+    refused_text "a return within a line" '11?00' '11\r00' "has a control character"
+    refused_text "a return within a comment" '1100 # one?1200 # two' '1100 # one\r1200 # two' "has a control character"
 }
 
 # ---- the plain words
@@ -249,29 +251,29 @@ test_bad_text() {
 test_words() {
     owed_records | awk 'NR == 1 { print "# OWED" } { print $0 "  # comment" }' >"$scratch/owed"
     program_prints 'k 0 code 0 place 0 rounds 0 winners 1 start 0' '0 1 0 0' '0 1 1 0'
-    stand_in "$scratch/owed"
+    stand_in --plain "$scratch/owed"
     says "one state" 0 "A controller was made: with patience 0 it has 1 state."
     program_prints 'k 0 code 1 place 0 rounds 1 winners 1 start 0' 'k 1 code 0 place 0 rounds 0 winners 2 start 1' \
         '1 1 0 0' '0 1 0 0'
-    stand_in "$scratch/owed"
+    stand_in --plain "$scratch/owed"
     says "two states, patience 1" 0 "with patience 1 it has 2 states. With less patience none can be made."
     program_prints 'k 7 code 1 place 0 rounds 1 winners 1 start 0'
-    stand_in "$scratch/owed"
+    stand_in --plain "$scratch/owed"
     says "no controller" 1 "No controller can be made with patience 0 to 7."
     program_prints 'k 0 code 6 place 12 rounds 0 winners 0 start 0'
-    stand_in "$scratch/owed"
+    stand_in --plain "$scratch/owed"
     says "a record and its line" 3 \
         "It is record 12, counted from 0: 4111 (line 14 of the file). Before it stands 4101 (line 13 of the file)."
-    stand_in "$scratch/owed.bytes"
+    stand_in --plain "$scratch/owed.bytes"
     says "a record and its bytes" 3 "It is record 12, counted from 0: 4 1 1 1 (bytes 48 to 51 of the file)." \
         "Before it stands 4 1 0 1 (bytes 44 to 47 of the file)."
     program_prints 'k 0 code 1 place 0 rounds 1 winners 1 start 0' 'k 1 code 11 place 0 rounds 0 winners 0 start 0'
-    stand_in "$scratch/owed"
+    stand_in --plain "$scratch/owed"
     says "full with patience 1" 3 "No controller can be made with patience 0. With patience 1 the answer is another:" \
         "Refused with code 11, FULL:"
     for code in 2 3 4 5 6 7 8 9 10 11 12 13 14; do
         program_prints "k 0 code $code place 1 rounds 0 winners 0 start 0"
-        stand_in "$scratch/owed"
+        stand_in --plain "$scratch/owed"
         meaning=$(awk -F ' [|] ' -v code="| $code" '$1 == code { print $2 ": " $3 }' "$root/docs/CARD.md")
         says "code $code in the card's words" 3 "Refused with code $code, $meaning"
     done
@@ -280,14 +282,14 @@ test_words() {
 test_gaps() {
     program_prints 'k 0 code 10 place 0 rounds 0 winners 0 start 0'
     owed_records | sed '$d' >"$scratch/gap"
-    stand_in "$scratch/gap"
+    stand_in --plain "$scratch/gap"
     says "a gap at the world's turn" 3 "The first gap: the world's state 1 has no edge for input 1 (no record begins with 411)."
     owed_records | sed '/^3101/d' >"$scratch/gap"
-    stand_in "$scratch/gap"
+    stand_in --plain "$scratch/gap"
     says "a gap at the controller's turn" 3 \
         "The first gap: the controller's state 1 has no edge for output 0 (no record begins with 310)."
     owed_records | sed '/^4/d' >"$scratch/gap"
-    stand_in "$scratch/gap"
+    stand_in --plain "$scratch/gap"
     says "no input at all" 3 "There is no edge on an input at all (no record begins with 4)."
 }
 
@@ -459,16 +461,16 @@ test_graphviz() {
 test_tables() {
     for table in owed silent first night loud; do
         cp "$root/tables/$table.table" "$scratch/$table.table"
-        call "$root/desk" "$scratch/$table.table"
-        gives "$table: what ./desk says" 0 "$expected/$table.said"
+        call "$root/desk" --plain "$scratch/$table.table"
+        gives "$table: what ./desk --plain says" 0 "$expected/$table.said"
         call "$root/desk" --picture "$scratch/$table.table"
         says "$table: its controller is drawn" 0 "Drawn as $scratch/$table.table.controller."
         holds "$table: its controller as DOT" cmp "$scratch/$table.table.controller.dot" "$expected/$table.controller.dot"
     done
     printf '%s\n' 'k 0 code 0 place 0 rounds 0 winners 1 start 0' '0 1 0 0' '0 1 1 0' >"$scratch/owed.answer"
-    call "$root/desk" --program "$scratch/owed.table"
-    gives "owed: --program prints only what the program prints" 0 "$scratch/owed.answer"
-    call "$root/desk" --program "$scratch/owed.bytes"
+    call "$root/desk" "$scratch/owed.table"
+    gives "owed: ./desk prints what the program prints, and no more" 0 "$scratch/owed.answer"
+    call "$root/desk" "$scratch/owed.bytes"
     gives "owed as bytes" 0 "$scratch/owed.answer"
 }
 
@@ -480,8 +482,8 @@ both_records() {
 
 asked=$scratch/asked
 
-answers() { # NAME STATUS TEXT..: what ./desk answers for the table in $asked
-    call "$root/desk" "$asked"
+answers() { # NAME STATUS TEXT..: what ./desk --plain answers for the table in $asked
+    call "$root/desk" --plain "$asked"
     says "$@"
 }
 

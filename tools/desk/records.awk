@@ -1,5 +1,7 @@
 # Reads a table written as text. Prints each record as the number of its line and its four digits, blanks between.
 # The first line that is neither a record, a comment nor blank is told on standard error, and the exit status is 1.
+# A comment may have any letters, but no control character: a return alone, which some editors show as a new line, would hide the
+# records after it. It is run in the C locale, where a character is a byte.
 
 function refuse(why) {
     gsub(/[^ -~]/, "?", line)    # what a screen can't show, or might obey
@@ -11,7 +13,7 @@ function refuse(why) {
     sub(/\r$/, "")               # how some editors end a line
     gsub(/\t/, " ")
     line = $0
-    if (/[^ -~]/) refuse("has a character that is not plain text")
+    if (/[\001-\037\177]/) refuse("has a control character")
     sub(/#.*/, "")
     gsub(/ /, "")
     if ($0 == "") next
