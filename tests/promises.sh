@@ -1,6 +1,7 @@
 #!/bin/sh
-# tests/promises.sh: every name that docs/PROMISES.md gives in backquotes exists: a file, a must-fail edit, a function or type of the code, or a
-# definition or law of specs/ and proofs/; and every must-fail edit stands there. Prints what is missing and last 'N passed, M failed'.
+# tests/promises.sh: every name that docs/PROMISES.md and docs/DECISIONS.md give in backquotes exists: a file, a must-fail edit, a function,
+# type or field of the code, or a definition or law of specs/ and proofs/; and every must-fail edit stands in docs/PROMISES.md. Prints what is
+# missing and last 'N passed, M failed'.
 set -u
 cd "$(dirname "$0")/.." || exit 2
 
@@ -12,7 +13,7 @@ declared=$(mktemp) || exit 2
 trap 'rm -f "$declared"' EXIT
 {
     find crates -name '*.antt' -exec sed -n 's/^ *\(unfoldable \|abbrev \)*\(pub \)*\(data \|record \)*\([^ ({]*\)\( [^=]*\)\{0,1\} : .*/\4/p; s/^ *pub \(data\|record\) \([^ ]*\).*/\2/p' {} +
-    find crates -name '*.rt' -exec sed -n 's/^ *\(#\[no_mangle\] \)*\(pub \)*\(extern "C" \)*\(fn\|mod\|enum\|struct\|const\) \([A-Za-z_0-9]*\).*/\5/p' {} +
+    find crates -name '*.rt' -exec sed -n 's/^ *\(#\[no_mangle\] \)*\(pub \)*\(extern "C" \)*\(fn\|mod\|enum\|struct\|const\) \([A-Za-z_0-9]*\).*/\5/p; s/^ *pub \([a-z_]*\): .*/\1/p' {} +
     find crates -name '*.edit' -exec basename {} .edit \;
     ls crates
 } | sort -u >"$declared"
@@ -21,14 +22,17 @@ exists() {
     [ -e "$1" ] || [ -e "crates/$1" ] || [ -n "$(find crates docs tests tables include -name "$1" 2>/dev/null | head -n 1)" ] || grep -qxF -- "$1" "$declared"
 }
 
-# shellcheck disable=SC2016
-for name in $(grep -o '`[^`]*`' docs/PROMISES.md | tr -d '`' | grep -v ' ' | sort -u); do
-    if exists "$name"; then
-        passed=$((passed + 1))
-    else
-        failed=$((failed + 1))
-        echo "docs/PROMISES.md names $name, which is not there"
-    fi
+# Names without a blank; the language's own types are left out.
+for document in docs/PROMISES.md docs/DECISIONS.md; do
+    # shellcheck disable=SC2016
+    for name in $(grep -o '`[^`]*`' "$document" | tr -d '`' | grep -v -e ' ' -e '^[iu][0-9]*$' | sort -u); do
+        if exists "$name"; then
+            passed=$((passed + 1))
+        else
+            failed=$((failed + 1))
+            echo "$document names $name, which is not there"
+        fi
+    done
 done
 
 for edit in crates/*/must-fail/*.edit; do
