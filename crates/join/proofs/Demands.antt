@@ -80,12 +80,11 @@ parts-learnt κs args result after learnt =
       promise = learnt;
     }
 
--- no second answer fits, and no other bytes
-pub join-one-outcome : {one two : List ℕ} (call other : Join one two) → call .out ≡ other .out → (call .answer ≡ other .answer) × (call .after ≡ other .after)
-join-one-outcome {one} {two} call other e = (
-  call .promised-answer ∙ ap (λ (out : List ℕ). join one two out .answer) e ∙ sym (other .promised-answer),
-  call .promised-bytes ∙ ap (λ (out : List ℕ). join one two out .outAfter) e ∙ sym (other .promised-bytes),
-)
+-- no second answer fits, and no other bytes: for a join whatever its buffer's length
+pub join-one-outcome : (one two out : List ℕ) (answer other : Answer) (after otherAfter : List ℕ) → answer ≡ join one two out .answer
+    → after ≡ join one two out .outAfter → other ≡ join one two out .answer → otherAfter ≡ join one two out .outAfter
+    → (answer ≡ other) × (after ≡ otherAfter)
+join-one-outcome one two out answer other after otherAfter given bytes given-other bytes-other = (given ∙ sym given-other, bytes ∙ sym bytes-other)
 
 pub parts-one-outcome : {one two : List ℕ} {K N : ℕ} (call other : Parts one two K N) → call .winnersBefore ≡ other .winnersBefore
     → call .controllerBefore ≡ other .controllerBefore
