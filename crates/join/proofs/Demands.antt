@@ -18,6 +18,7 @@ use Rattle.meaning.proofs.Join.{join-makes, bytes-grouped, pair-swapped, pair-t
 use Rattle.meaning.proofs.Demands as D
 use Rattle.meaning.proofs.Demands.{Three, made, recordAcross}
 use Rattle.game.specs.Finished.{leaves}
+use Rattle.game.proofs.Demands.{Call as Solve}
 use Rattle.join.specs.Joined.{joinedBytes}
 use Rattle.join.proofs.join as joinCode
 use Rattle.join.proofs.join.Kinds as joinKinds
@@ -43,15 +44,6 @@ pub record Parts (one two : List ℕ) (K N : ℕ) : Type 0 where
   pub winnersAfter : List ℕ
   pub controllerAfter : List ℕ
   pub promise : leaves answer winnersAfter controllerAfter ≡ parts one two K N winnersBefore controllerBefore
-
--- and of `solve`
-pub record Solve (bytes : List ℕ) (K N : ℕ) : Type 0 where
-  pub winnersBefore : List ℕ
-  pub controllerBefore : List ℕ
-  pub answer : Answer
-  pub winnersAfter : List ℕ
-  pub controllerAfter : List ℕ
-  pub promise : leaves answer winnersAfter controllerAfter ≡ solve bytes K N winnersBefore controllerBefore
 
 -- what a caller of the code learns is such a call
 pub join-learnt : (κs : Lfts 3) (args : ArgsD joinCode.signature κs) (result : ResD joinCode.signature κs)

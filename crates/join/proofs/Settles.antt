@@ -1,13 +1,12 @@
 -- A stage before the last is passed where its rounds are not full: NOTHING is never given, since a position wins wherever there is an output. And a
 -- refusal leaves the buffers as they were. Assumes nothing.
 use mathlib.Core.Path.{_≡_, ap}
-use mathlib.Core.Bool.{false}
 use mathlib.Core.List.{List}
 use Prim.Native.Nat.{ℕ, _<_}
 use native.Mathlib.Omega.{arith}
 use lib.IntN.{ℤ}
 use lib.ListN.{length}
-use lib.Dec.{eqb, ltb}
+use lib.Dec.{eqb}
 use borrow.Author.Tests.{ne-eqb}
 use Rattle.meaning.specs.declared.Answer.{Answer}
 use Rattle.meaning.specs.declared.Refusal.the-variants as R
@@ -20,7 +19,7 @@ use Rattle.meaning.proofs.Maximal.{some-winner}
 use Rattle.game.specs.declared.rounds.Settled.{Settled}
 use Rattle.game.specs.declared.rounds.Settled.the-variants.{After}
 use Rattle.game.specs.Rounds.{Settles}
-use Rattle.game.specs.Finished.{finished, leaves}
+use Rattle.game.specs.Finished.{leaves}
 use Rattle.game.proofs.Settled.{after-settled}
 
 module _ {K : ℕ} {t : Table} {X : Set} {N : ℕ} {out : List (List ℤ)} {settled : Settled} (h : Settles K t X N out settled) where
