@@ -61,6 +61,16 @@ impl Call {
     pub fn join(first: &[u8], second: &[u8]) -> Call {
         Call { kind: Kind::Join, second: second.to_vec(), ..Call::solve(first, 0, 1) }
     }
+
+    /// For each buffer that the call writes to, the bytes lent and the bytes that it asks for.
+    pub fn lent(&self) -> Vec<(usize, usize)> {
+        let (lent, least) = (&self.lengths, Lengths::exact(self.room));
+        let answer = (lent.answer, least.answer);
+        match self.kind {
+            Kind::Join => vec![(lent.out, least.out), answer],
+            _ => vec![(lent.winners, least.winners), (lent.controller, least.controller), answer],
+        }
+    }
 }
 
 /// The code and every byte of the lent buffers afterwards. `largest` is the least room for the

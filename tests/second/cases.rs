@@ -1,8 +1,8 @@
-//! The stored cases: C1 to C12 of document 01 and three hard tables with known answers.
+//! The stored cases: C1 to C12 of document 01 and four hard tables with known answers.
 
 use crate::answer::{Answer, FULL};
 use crate::call::{self, Call, Engine, Outcome};
-use crate::compare::Tally;
+use crate::tally::Tally;
 
 const OWED: &str = "1020 1100 2000 2110 3000 3010 3101 3110 4000 4010 4011 4101 4111";
 const SILENT: &str = "1020 1100 2000 2110 3000 3011 3101 3111 4000 4010 4101 4111";
@@ -11,8 +11,9 @@ const FIRST: &str = "1030 1100 2000 3000 3100 4001";
 const WORK: &[u8] = include_bytes!("../../tables/work.tab");
 const UNREAL: &[u8] = include_bytes!("../../tables/unreal.tab");
 const SHRINK: &[u8] = include_bytes!("../../tables/shrink.tab");
+const LONG: &[u8] = include_bytes!("../../tables/long.tab");
 
-pub const HARD: [&[u8]; 3] = [WORK, UNREAL, SHRINK];
+pub const HARD: [&[u8]; 4] = [WORK, UNREAL, SHRINK, LONG];
 
 /// One digit a byte.
 fn bytes(digits: &str) -> Vec<u8> {
@@ -178,7 +179,7 @@ fn came_out(stored: &Stored, outcome: &Outcome) -> bool {
 /// A hard table's name, bytes, answer at K 7, and the maximal members of its largest named set.
 type Hard = (&'static str, &'static [u8], Answer, usize);
 
-fn hard() -> [Hard; 3] {
+fn hard() -> [Hard; 4] {
     let answer = |code: u32, rounds: u32, winners: u32, start: u32| Answer {
         code,
         rounds,
@@ -190,6 +191,7 @@ fn hard() -> [Hard; 3] {
         ("work", WORK, answer(0, 152, 9, 7), 256),
         ("unreal", UNREAL, answer(1, 22, 1, 0), 256),
         ("shrink", SHRINK, answer(0, 36, 47, 23), 247),
+        ("long", LONG, answer(0, 840, 4, 3), 54),
     ]
 }
 
@@ -206,19 +208,5 @@ pub fn run(tally: &mut Tally) {
         let full = Some(Answer::refusal(FULL, 0, 0));
         let tight = Call::solve(table, 7, largest as u32 - 1);
         tally.expect(&tight, name, |outcome| outcome.answer() == full);
-    }
-}
-
-/// The chain engine's seconds on the hard tables, the least of several.
-pub fn measure() {
-    for (name, table, _, _) in hard() {
-        let call = Call::solve(table, 7, 256);
-        let seconds = |_| {
-            let begun = std::time::Instant::now();
-            call::answer(Engine::Chain, &call);
-            begun.elapsed().as_secs_f64()
-        };
-        let least = (0..10).map(seconds).fold(f64::MAX, f64::min);
-        println!("{name}: {least:.4} seconds");
     }
 }

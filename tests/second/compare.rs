@@ -1,21 +1,20 @@
-//! Every call is put to each engine (and to the proved calls, where they can be asked), and what
-//! they answer and write is compared byte by byte.
+//! What different engines answer and write for one call is compared byte by byte, and a
+//! controller is played.
 
-use crate::answer::{ANSWER_BYTES, FULL, REALIZABLE, UNREALIZABLE};
+use crate::answer::{ANSWER_BYTES, REALIZABLE, UNREALIZABLE};
 use crate::call::{self, pattern, Call, Engine, Kind, Outcome};
 use crate::play;
-use crate::proved::Proved;
-use std::io;
 
 /// Enough to see what is wrong; further ones are counted.
 pub const MOST_PRINTED: u32 = 20;
 
+/// What an engine, or whoever else is asked, says to a call.
 pub struct Voice {
-    name: &'static str,
-    outcome: Outcome,
+    pub name: &'static str,
+    pub outcome: Outcome,
 }
 
-fn engines(call: &Call) -> Vec<Voice> {
+pub fn engines(call: &Call) -> Vec<Voice> {
     let mut voices = Vec::new();
     if call::fits_plain(call) {
         voices.push(Voice { name: "plain", outcome: call::answer(Engine::Plain, call) });
@@ -80,7 +79,9 @@ fn played(call: &Call, outcome: &Outcome) -> Option<String> {
     play::fault(&table, rows, winners / 8, call.patience as usize)
 }
 
-fn fault(call: &Call, voices: &[Voice]) -> Option<String> {
+/// What is wrong with the answers to a call, if anything is: the first in which two differ, a byte
+/// written where none may be, or a controller that lets a run pass K.
+pub fn fault(call: &Call, voices: &[Voice]) -> Option<String> {
     let first = &voices[0];
     for other in &voices[1..] {
         if let Some(what) = difference(&first.outcome, &other.outcome) {
@@ -115,7 +116,8 @@ fn print_voice(call: &Call, voice: &Voice) {
     show("join", &outcome.out, out);
 }
 
-fn print_fault(call: &Call, voices: &[Voice], reason: &str) {
+/// The call, its tables as digits, and every answer.
+pub fn print_fault(call: &Call, voices: &[Voice], reason: &str) {
     println!("FAILED: {reason}");
     println!("  {:?} K {} N {} {:?}", call.kind, call.patience, call.room, call.lengths);
     println!("  table {}", digits(&call.first));
@@ -123,105 +125,4 @@ fn print_fault(call: &Call, voices: &[Voice], reason: &str) {
         println!("  second {}", digits(&call.second));
     }
     voices.iter().for_each(|voice| print_voice(call, voice));
-}
-
-#[derive(Default)]
-pub struct Tally {
-    pub passed: u32,
-    pub failed: u32,
-    /// Calls that both engines worked out.
-    pub both: u32,
-    pub proved_answers: u32,
-    pub played: u32,
-    pub codes: [u32; 15],
-    /// FULL of neither, of the first and of the second table alone.
-    pub full: [u32; 3],
-    pub proved: Option<Proved>,
-}
-
-impl Tally {
-    fn enter(&mut self, call: &Call, wanted: impl Fn(&Outcome) -> Option<String>) -> Outcome {
-        let voices = self.voices(call);
-        let outcome = voices[0].outcome.clone();
-        self.count(call, &voices[0]);
-        match fault(call, &voices).or_else(|| wanted(&outcome)) {
-            None => self.passed += 1,
-            Some(reason) => self.fail(call, &voices, &reason),
-        }
-        outcome
-    }
-
-    /// The engines work while the proved calls do.
-    fn voices(&mut self, call: &Call) -> Vec<Voice> {
-        let asked = self.proved.as_mut().map(|proved| proved.ask(call));
-        let mut voices = engines(call);
-        let (Some(asked), Some(proved)) = (asked, self.proved.as_mut()) else { return voices };
-        match asked.and_then(|()| proved.hear(call)) {
-            Ok(outcome) => {
-                self.proved_answers += 1;
-                voices.push(Voice { name: "proved", outcome });
-            }
-            Err(error) => self.break_off(call, &voices, error),
-        }
-        voices
-    }
-
-    fn fail(&mut self, call: &Call, voices: &[Voice], reason: &str) {
-        self.failed += 1;
-        match self.failed {
-            0..=MOST_PRINTED => print_fault(call, voices, reason),
-            _ if self.failed == MOST_PRINTED + 1 => println!("FAILED: and more, only counted"),
-            _ => {}
-        }
-    }
-
-    /// Whoever gives the proved answers is gone, so there is nothing left to compare.
-    fn break_off(&mut self, call: &Call, voices: &[Voice], error: io::Error) -> ! {
-        self.failed += 1;
-        print_fault(call, voices, &format!("the proved calls broke off: {error}"));
-        self.end();
-        println!("{} passed, {} failed", self.passed, self.failed);
-        std::process::exit(1)
-    }
-
-    /// The process of the proved calls has to end well, too.
-    pub fn end(&mut self) {
-        let Some(proved) = self.proved.take() else { return };
-        let reason = match proved.end() {
-            Ok(status) if status.success() => return,
-            Ok(status) => status.to_string(),
-            Err(error) => error.to_string(),
-        };
-        println!("FAILED: the process of the proved calls ended badly: {reason}");
-        self.failed += 1;
-    }
-
-    fn count(&mut self, call: &Call, first: &Voice) {
-        let outcome = &first.outcome;
-        self.codes[outcome.code as usize] += 1;
-        if outcome.code == FULL {
-            let answer = outcome.answer().expect("FULL comes after the room checks");
-            self.full[answer.which as usize] += 1;
-        }
-        if call.kind == Kind::Join {
-            return;
-        }
-        let solved = [REALIZABLE, UNREALIZABLE, FULL].contains(&outcome.code);
-        self.both += u32::from(solved && first.name == "plain");
-        self.played += u32::from(outcome.code == REALIZABLE);
-    }
-
-    pub fn call(&mut self, call: &Call) -> Outcome {
-        self.enter(call, |_| None)
-    }
-
-    /// A call of which more is known beforehand.
-    pub fn expect(
-        &mut self,
-        call: &Call,
-        known: &str,
-        holds: impl Fn(&Outcome) -> bool,
-    ) -> Outcome {
-        self.enter(call, |outcome| (!holds(outcome)).then(|| format!("expected: {known}")))
-    }
 }

@@ -6,12 +6,12 @@
 //!     rustc --edition 2021 -O -o target/second tests/second/main.rs
 //!
 //!     second                        the stored cases and a fixed number of random ones
-//!     second --seed 7 --cases 500   another seed, another number
 //!     second --calls 'tools/program serve'
 //!                                   with the proved calls, as target/bin/serve answers them
+//!     second --calls 'tools/program serve' --seed 7 --cases 200000
+//!                                   a long run: another seed, another number
 //!     second --desk 'tools/program desk' --cases 100
 //!                                   the desk program's text, on stored tables and 100 others
-//!     second --measure              the chain engine's seconds on the hard tables
 
 mod answer;
 mod call;
@@ -25,14 +25,15 @@ mod plain;
 mod play;
 mod proved;
 mod table;
+mod tally;
 mod trials;
 
 use answer::NOTHING;
-use compare::Tally;
 use desk::Desk;
 use proved::Proved;
 use std::io;
 use std::process::ExitCode;
+use tally::Tally;
 use trials::Trials;
 
 const SEED: u64 = 1;
@@ -44,13 +45,12 @@ const HARD_EVERY: u64 = 200;
 struct Options {
     seed: u64,
     cases: Option<u64>,
-    measure: bool,
     calls: Option<String>,
     desk: Option<String>,
 }
 
 fn options() -> Result<Options, String> {
-    let mut options = Options { seed: SEED, cases: None, measure: false, calls: None, desk: None };
+    let mut options = Options { seed: SEED, cases: None, calls: None, desk: None };
     let mut words = std::env::args().skip(1);
     while let Some(word) = words.next() {
         let mut next = || words.next().ok_or(format!("{word} needs a word after it"));
@@ -60,7 +60,6 @@ fn options() -> Result<Options, String> {
             "--cases" => options.cases = Some(number(next()?)?),
             "--calls" => options.calls = Some(next()?),
             "--desk" => options.desk = Some(next()?),
-            "--measure" => options.measure = true,
             _ => return Err(format!("unknown word: {word}")),
         }
     }
@@ -69,6 +68,8 @@ fn options() -> Result<Options, String> {
 
 fn run(trials: &mut Trials, cases: u64) {
     cases::run(&mut trials.tally);
+    // The codes are counted from here: random tables have to reach them without the stored ones.
+    trials.tally.codes = Default::default();
     for number in 0..cases {
         if number % HARD_EVERY == 0 {
             trials.hard();
@@ -103,6 +104,9 @@ fn print(trials: &Trials) {
     println!("  worked out by both engines: {}", tally.both);
     println!("  answered by the proved calls: {}", tally.proved_answers);
     println!("  controllers played: {}", tally.played);
+    let [short, exact, longer] = tally.lent;
+    println!("  buffers lent too short: {short}, exact: {exact}, longer: {longer}");
+    println!("codes of the random calls");
     for (code, number) in tally.codes.iter().enumerate() {
         println!("  code {code}: {number}");
     }
@@ -154,10 +158,6 @@ fn main() -> ExitCode {
         Ok(options) => options,
         Err(reason) => return unable(reason),
     };
-    if options.measure {
-        cases::measure();
-        return ExitCode::SUCCESS;
-    }
     match compare(&options) {
         Ok((passed, failed)) => {
             println!("{passed} passed, {failed} failed");

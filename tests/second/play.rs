@@ -1,57 +1,41 @@
-//! Demand 2 by exploration: a written controller is played against every input at every turn.
+//! Demand 2 by exploration: a written controller is played against every input, in every pair of
+//! a controller's state and a set of runs that this leads to.
 //!
-//! Each run is followed by itself, as the controller's state, the state the run ends in and the
-//! marked states it has entered. Every reachable set of runs is made of such runs under the same
-//! inputs, so a run passes K in some set exactly if it does here. Counts aren't capped or merged:
-//! the counting of the engines plays no part.
+//! Runs that end in one state after different numbers of marked states stay apart, and no number
+//! is capped: the counting of the engines plays no part.
 
-use crate::table::Table;
+use crate::table::{Side, Table};
+use std::collections::HashSet;
 
-/// One run at the controller's turn.
-#[derive(Clone, Copy)]
-struct Run {
-    place: usize,
-    state: usize,
-    entries: usize,
-}
+/// A set of runs under the same inputs: in the byte pair of each state, bit e is set if a run
+/// ends there that has entered e marked states. K is at most 7, and a round enters at most two.
+type Runs = [u16; 8];
 
-struct Walk<'a> {
-    table: &'a Table,
-    patience: usize,
-    seen: Vec<bool>,
-    waiting: Vec<Run>,
-}
-
-impl Walk<'_> {
-    fn meet(&mut self, run: Run) {
-        let number = (run.place * 8 + run.state) * (self.patience + 1) + run.entries;
-        if !self.seen[number] {
-            self.seen[number] = true;
-            self.waiting.push(run);
+/// "Several edges may share a state and a letter: all of them are followed."
+fn follow(runs: &Runs, letter: usize, from: &Side, to: &Side) -> Runs {
+    let mut after = [0; 8];
+    for state in 0..from.states {
+        for entered in bits(from.targets[state][letter]) {
+            after[entered] |= runs[state] << to.marks[entered];
         }
     }
-
-    /// The ways on from one run by one row; false if one of them passes K.
-    fn follow(&mut self, run: Run, row: &[u8]) -> bool {
-        let (controller, world) = (&self.table.controller, &self.table.world);
-        let (output, input, place) = (row[1] as usize, row[2] as usize, row[3] as usize);
-        let mut after = Vec::new();
-        for middle in bits(controller.targets[run.state][output]) {
-            let half = run.entries + world.marks[middle] as usize;
-            for state in bits(world.targets[middle][input]) {
-                after.push(Run { place, state, entries: half + controller.marks[state] as usize });
-            }
-        }
-        let kept = after.iter().all(|run| run.entries <= self.patience);
-        if kept {
-            after.into_iter().for_each(|run| self.meet(run));
-        }
-        kept
-    }
+    after
 }
 
 fn bits(targets: u8) -> impl Iterator<Item = usize> {
     (0..8).filter(move |state| targets >> state & 1 == 1)
+}
+
+fn keep_to(runs: &Runs, patience: usize) -> bool {
+    runs.iter().all(|entries| entries >> (patience + 1) == 0)
+}
+
+/// The runs after a round by one row; empty if one of them passes K, halfway or at the end.
+fn after_round(table: &Table, runs: &Runs, row: &[u8], patience: usize) -> Option<Runs> {
+    let (output, input) = (row[1] as usize, row[2] as usize);
+    let halfway = follow(runs, output, &table.controller, &table.world);
+    let after = follow(&halfway, input, &table.world, &table.controller);
+    (keep_to(&halfway, patience) && keep_to(&after, patience)).then_some(after)
 }
 
 /// Each place has exactly one row for each input, all with one output of the table.
@@ -79,15 +63,17 @@ pub fn fault(table: &Table, rows: &[u8], places: usize, patience: usize) -> Opti
     if !is_complete(table, rows, places) {
         return Some("the rows aren't one for each state and input".to_string());
     }
-    let seen = vec![false; places * 8 * (patience + 1)];
-    let mut walk = Walk { table, patience, seen, waiting: Vec::new() };
-    for state in bits(table.starts) {
-        walk.meet(Run { place: rows[0] as usize, state, entries: 0 });
-    }
-    while let Some(run) = walk.waiting.pop() {
-        for row in rows.chunks_exact(4).filter(|row| row[0] as usize == run.place) {
-            if !walk.follow(run, row) {
-                return Some(format!("a run passes K from controller state {}", run.place));
+    let mut starts = [0; 8];
+    bits(table.starts).for_each(|state| starts[state] = 1);
+    let mut seen = HashSet::from([(rows[0], starts)]);
+    let mut waiting = vec![(rows[0], starts)];
+    while let Some((place, runs)) = waiting.pop() {
+        for row in rows.chunks_exact(4).filter(|row| row[0] == place) {
+            let Some(after) = after_round(table, &runs, row, patience) else {
+                return Some(format!("a run passes K from controller state {place}"));
+            };
+            if seen.insert((row[3], after)) {
+                waiting.push((row[3], after));
             }
         }
     }

@@ -2,10 +2,11 @@
 
 use crate::answer::{FULL, REALIZABLE, ROOM, UNREALIZABLE};
 use crate::call::{Call, Kind, Lengths, Outcome};
-use crate::compare::Tally;
+use crate::cases::HARD;
 use crate::make::{any_good, changed, damaged, good, letters, Dice};
 use crate::proved::Proved;
 use crate::table::{read, Table};
+use crate::tally::Tally;
 
 pub const MOST_ROOM: u32 = 256;
 
@@ -24,6 +25,8 @@ pub struct Shares {
     pub tight: u32,
     pub largest: usize,
     pub rounds: u32,
+    /// How many bytes each damaged table has.
+    pub damaged: Vec<usize>,
 }
 
 pub struct Trials {
@@ -53,13 +56,18 @@ impl Shares {
             FULL => self.full += 1,
             _ => self.never += 1,
         }
-        self.largest = self.largest.max(last.largest);
-        self.rounds = self.rounds.max(answer.rounds);
         self.starts += u32::from(table.starts.count_ones() > 1);
         self.edges += u32::from(several_edges(&table));
         self.marks += u32::from(marks_on_both(&table));
         self.winners += u32::from(answer.winners > 1);
         self.states += u32::from(answer.code == REALIZABLE && answer.winners > 1);
+        self.measure(last);
+    }
+
+    fn measure(&mut self, outcome: &Outcome) {
+        let answer = outcome.answer().expect("the answer buffer is long enough");
+        self.largest = self.largest.max(outcome.largest);
+        self.rounds = self.rounds.max(answer.rounds);
     }
 
     pub fn print(&self) {
@@ -76,6 +84,13 @@ impl Shares {
         println!("  several controller states: {:.1}%", part(self.states));
         println!("  largest named set {}, most rounds {}", self.largest, self.rounds);
         println!("tight rooms (the largest named set, and one less): {}", self.tight);
+        self.print_damaged();
+    }
+
+    fn print_damaged(&self) {
+        let (shortest, longest) = (self.damaged.iter().min(), self.damaged.iter().max());
+        let (shortest, longest) = (shortest.unwrap_or(&0), longest.unwrap_or(&0));
+        println!("damaged tables {}, of {shortest} to {longest} bytes", self.damaged.len());
     }
 }
 
@@ -106,27 +121,26 @@ impl Trials {
     /// As the desk program does: K = 0, 1, up to 7, stopping after the first code other than 1.
     pub fn ladder(&mut self) {
         let table = self.table();
-        self.climb(&table);
-    }
-
-    /// The hard tables with some edges led elsewhere: long lists and many rounds.
-    pub fn hard(&mut self) {
-        let tables = crate::cases::HARD;
-        let table = tables[self.dice.below(tables.len())];
-        let table = changed(&mut self.dice, table);
-        self.climb(&table);
-    }
-
-    fn climb(&mut self, table: &[u8]) {
         for patience in 0..8 {
-            let call = self.lend(Call::solve(table, patience, MOST_ROOM));
+            let call = self.lend(Call::solve(&table, patience, MOST_ROOM));
             let outcome = self.tally.call(&call);
             if outcome.code != UNREALIZABLE || patience == 7 {
-                self.shares.enter(table, &outcome, patience);
+                self.shares.enter(&table, &outcome, patience);
                 self.tight(&call, &outcome);
                 return;
             }
         }
+    }
+
+    /// A hard table with some edges led elsewhere, at any K: long lists and many rounds.
+    pub fn hard(&mut self) {
+        let hard = HARD[self.dice.below(HARD.len())];
+        let table = changed(&mut self.dice, hard);
+        let patience = self.dice.below(8) as u32;
+        let call = self.lend(Call::solve(&table, patience, MOST_ROOM));
+        let outcome = self.tally.call(&call);
+        self.shares.measure(&outcome);
+        self.tight(&call, &outcome);
     }
 
     /// "FULL is given exactly if ... some W, A or B of it has more maximal members than the room."
@@ -157,9 +171,15 @@ impl Trials {
         self.tally.call(&call);
     }
 
+    fn damaged(&mut self, good: &[u8]) -> Vec<u8> {
+        let spoilt = damaged(&mut self.dice, good);
+        self.shares.damaged.push(spoilt.len());
+        spoilt
+    }
+
     pub fn damage(&mut self) {
         let table = self.table();
-        let spoilt = damaged(&mut self.dice, &table);
+        let spoilt = self.damaged(&table);
         let call = self.lend(Call::solve(&spoilt, 0, 4));
         self.tally.call(&call);
     }
@@ -176,12 +196,12 @@ impl Trials {
     pub fn damaged_pair(&mut self) {
         let [mut first, mut second] = self.pair();
         match self.dice.below(4) {
-            0 => first = damaged(&mut self.dice, &first),
-            1 => second = damaged(&mut self.dice, &second),
+            0 => first = self.damaged(&first),
+            1 => second = self.damaged(&second),
             2 => second = self.table(),
             _ => {
-                first = damaged(&mut self.dice, &first);
-                second = damaged(&mut self.dice, &second);
+                first = self.damaged(&first);
+                second = self.damaged(&second);
             }
         }
         let call = match self.dice.chance(50) {
