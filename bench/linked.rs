@@ -1,0 +1,43 @@
+//! The proved engine, linked into this program: `desk_solve` of include/feshamiru.h.
+
+use crate::call::{Call, Outcome};
+
+extern "C" {
+    fn desk_solve(
+        table: *const u8,
+        table_length: usize,
+        k: u32,
+        room: u32,
+        winners: *mut u8,
+        winners_length: usize,
+        controller: *mut u8,
+        controller_length: usize,
+        answer: *mut u8,
+        answer_length: usize,
+    ) -> u32;
+}
+
+/// Solves into the buffers that are lent.
+pub fn solve(call: &Call, lent: &mut Outcome) {
+    // SAFETY: each pointer is that of a buffer of its own, and its length comes with it.
+    lent.code = unsafe {
+        desk_solve(
+            call.first.as_ptr(),
+            call.first.len(),
+            call.patience,
+            call.room,
+            lent.winners.as_mut_ptr(),
+            lent.winners.len(),
+            lent.controller.as_mut_ptr(),
+            lent.controller.len(),
+            lent.answer.as_mut_ptr(),
+            lent.answer.len(),
+        )
+    };
+}
+
+pub fn answer(call: &Call) -> Outcome {
+    let mut outcome = Outcome::untouched(&call.lengths);
+    solve(call, &mut outcome);
+    outcome
+}
