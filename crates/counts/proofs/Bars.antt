@@ -13,13 +13,13 @@ use borrow.Author.Tests.{lt-ltb, le-ltb}
 use lib.Bits.{bitAnd, bitOr, and-mask, and-comm, or-add-and, or-shr, or-mod, or-zero-l}
 use lib.Dec.{ltb}
 use lib.IntN.{ℤ}
-use lib.ListN.{length, getD, length-map}
+use lib.ListN.{length, getD}
 use Rattle.meaning.specs.Lists.{tab, smallest}
 use Rattle.meaning.specs.Table.{bit}
 use Rattle.meaning.specs.Counting.{Position, count, back}
 use Rattle.meaning.specs.Written.{positionBytes}
 use Rattle.meaning.proofs.Tests.{smallest-top}
-use Rattle.meaning.proofs.Lists.{tab-length, tab-at, tab-beyond, tab-same, tab-getD, map-at}
+use Rattle.meaning.proofs.Lists.{tab-length, tab-at, tab-beyond}
 use Rattle.meaning.proofs.Steps.{same-counts, leaves, back-at}
 use Rattle.counts.specs.Cells.{cell, cells, lesserCounts, halfOf}
 use Rattle.counts.specs.declared.position.Half.{Half}
@@ -68,19 +68,6 @@ module _ (masks : List ℕ) (q : ℕ) where
 
   pub bar-unset : (p : ℕ) → p < 8 → q < 8 → bitAnd (getD masks p 0 / 2 ^ q) 1 ≡ 0 → count (barCounts masks q) p ≡ 127
   bar-unset p l h e = bar-at p l ∙ rw (← bit-tested (getD masks p 0) q h, e)
-
--- an array of eight words with the bars as its counts, word by word and as a whole
-module _ (masks words : List ℕ) where
-  pub bars-whole : length words ≡ 8 → ((q : ℕ) → q < 8 → countsIn (getD words q 0) ≡ barCounts masks q) → map countsIn words ≡ tab 8 (barCounts masks)
-  bars-whole long e =
-      let n : length (map countsIn words) ≡ 8 = length-map words countsIn ∙ long in
-      sym (tab-getD (map countsIn words) []) ∙ rw n
-      (tab-same 8 (λ q. getD (map countsIn words) q []) (barCounts masks) (λ q l. map-at countsIn words q 0 [] (omega arith) ∙ e q l))
-
-  pub bars-at : map countsIn words ≡ tab 8 (barCounts masks) → (q : ℕ) → q < 8 → countsIn (getD words q 0) ≡ barCounts masks q
-  bars-at e q l =
-      let long : length words ≡ 8 = sym (length-map words countsIn) ∙ ap length e in
-      sym (map-at countsIn words q 0 [] (omega arith)) ∙ ap (λ (all : List Position). getD all q []) e ∙ tab-at 8 (barCounts masks) q [] l
 
 -- one in each byte, and so a count in every byte
 abbrev ones : ℕ

@@ -2,7 +2,7 @@
 use mathlib.Core.Path.{_≡_}
 use mathlib.Core.Bool.{cond}
 use mathlib.Core.List.{List, [], _∷_}
-use Prim.Native.Nat.{ℕ, zero, suc, _+_, _*_, _/_, _%_, _≤_}
+use Prim.Native.Nat.{ℕ, zero, suc, _+_, _*_, _/_, _%_, _≤_, _<_}
 use lib.Dec.{leb}
 use lib.ListN.{getD}
 use Rattle.meaning.specs.Lists.{tab}
@@ -27,6 +27,10 @@ flags (suc n) a b = flags n (a / 256) (b / 256) * 256 + cond (leb (a % 128) (b %
 -- for a target q: no count at the sources with an edge to it, and the highest at the others
 unfoldable pub barCounts : List ℕ → ℕ → Position
 barCounts masks q = tab 8 (λ p. cond (bit (getD masks p 0) q) 0 127)
+
+-- the words of a side's targets are their bars
+abbrev pub BarsOf : List ℕ → ℕ → List ℕ → Type 0
+BarsOf masks targets words = (q : ℕ) → q < targets → q < 8 → countsIn (getD words q 0) ≡ barCounts masks q
 
 -- what holds for the K whose most safe position of the half's sources is given
 abbrev pub FromMost : Half → ℕ → (ℕ → Type 0) → Type 0

@@ -3,15 +3,14 @@
 use crate::count;
 use crate::position::Half;
 ghost use mathlib.Core.Path.{_≡_};
-ghost use mathlib.Core.List.{map};
 ghost use mathlib.Core.Bool.{true};
 ghost use Prim.Native.Nat.{_<_};
 ghost use lib.Dec.{leb};
-ghost use Rattle.meaning.specs.Lists.{before as beforeBytes, every, tab};
+ghost use Rattle.meaning.specs.Lists.{before as beforeBytes, every};
 ghost use Rattle.meaning.specs.Counting.{below as belowAll, back as backBy};
 ghost use Rattle.meaning.specs.Written.{positionBytes};
 ghost use Rattle.counts.specs.Cells.{cells, lesserCounts, halfOf};
-ghost use Rattle.counts.specs.Words.{countsIn, flags, barCounts, FromMost};
+ghost use Rattle.counts.specs.Words.{countsIn, flags, barCounts, BarsOf, FromMost};
 
 // The top bit of each byte, and the bits below it.
 const TOPS: u64 = 0x8080_8080_8080_8080;
@@ -97,14 +96,16 @@ fn bar(half: Half, q: usize) -> u64
     word
 }
 
-// The bars of all eight targets.
+// The bars of the targets.
 pub fn bars(half: Half) -> [u64; 8]
-    ensures { λ r. ⌜ map countsIn r ≡ tab 8 (barCounts (half .masks)) ⌝ }
+    ensures { λ r. ⌜ BarsOf (half .masks) (half .targets) r ⌝ }
 {
     let mut out = [0u64; 8];
     let mut q = 0;
     while q < 8 {
-        out[q] = bar(half, q);
+        if q < half.targets {
+            out[q] = bar(half, q);
+        }
         q += 1;
     }
     out
@@ -113,7 +114,7 @@ pub fn bars(half: Half) -> [u64; 8]
 // The step back by a letter: from the most that is safe to the least that each target leaves to its
 // sources, all of them at once.
 pub fn back(m: &[i8; 8], half: Half, bars: &[u64; 8], most: u64) -> u64
-    requires { ⌜ map countsIn (now bars) ≡ tab 8 (barCounts (half .masks)) ⌝ }
+    requires { ⌜ BarsOf (half .masks) (half .targets) (now bars) ⌝ }
     ensures { λ r. ⌜ FromMost (halfOf half) most (λ K. countsIn r ≡ positionBytes (backBy K (halfOf half) (cells (now (m .entry))))) ⌝ }
 {
     let mut low = most;

@@ -49,9 +49,8 @@ pub fn cut(
     let Found::Number(n) = found else {
         return Found::Full;
     };
-    let mut list = [0u64; 256];
-    words::sort(&next, n, &mut list);
-    words::store(&list, n, a);
+    words::sort(&next, n, &mut old);
+    words::store(&old, n, a);
     Found::Number(n)
 }
 
@@ -78,8 +77,7 @@ pub fn widen(
     let Found::Number(n) = found else {
         return Found::Full;
     };
-    let mut list = [0u64; 256];
-    words::sort(&next, n, &mut list);
-    words::store(&list, n, b);
+    words::sort(&next, n, &mut old);
+    words::store(&old, n, b);
     Found::Number(n)
 }

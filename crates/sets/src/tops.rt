@@ -183,6 +183,9 @@ fn keep_rows(
     requires { ⌜ (xn ≤ length (now xs)) × (yn ≤ length (now ys)) × (yn ≤ 256) × (kept ≤ room) × (room ≤ length (now out)) ⌝ }
     ensures { λ r. ⌜ HoldsWords room (rowsOf (wordsOf (now (xs .entry)) xn) (wordsOf (now (ys .entry)) yn) (wordsOf (now (out .entry)) kept)) (now (out .exit)) r ⌝ }
 {
+    if xn == 0 {
+        return Found::Number(kept);
+    }
     let mut tops = [0u64; 256];
     let mut number = kept;
     let mut i = 0;

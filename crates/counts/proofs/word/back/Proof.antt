@@ -11,7 +11,7 @@ use lib.ListN.{getD}
 use Rattle.meaning.specs.Counting.{oneHigher}
 use Rattle.counts.specs.Cells.{cell}
 use Rattle.counts.proofs.Signed.{from-bits}
-use Rattle.counts.proofs.Bars.{bars-at, Lowered, lowered-by, lowered-still, lowered-whole}
+use Rattle.counts.proofs.Bars.{Lowered, lowered-by, lowered-still, lowered-whole}
 use Rattle.counts.proofs.word.back.Statement.{statement}
 use Rattle.counts.proofs.word.back.Tie as tie
 
@@ -75,7 +75,7 @@ loop-again c =
           let capped : oneHigher (w .4 .result) ≡ min (oneHigher (w .3 .result)) 127 = rw (from-bits (w .3 .result) (w .3 .ok)) at (w .4 .ensures) in
           let byte : w .5 .result ≡ oneHigher (w .4 .result) = rw (from-bits (w .4 .result) (w .4 .ok)) at (w .5 .ensures) in
           rw (w .8) (lowered-by half m (given .most) q low before (getD (given .bars .now) q 0) (w .5 .result) (w .7 .result) (w .0 .taken)
-          (bars-at (half .masks) (given .bars .now) (at .before .pre) q (omega arith)) (omega arith) (w .7 .ensures)))
+          (at .before .pre q (w .0 .taken) (omega arith)) (omega arith) (w .7 .ensures)))
           (λ w. rw (w .1) (lowered-still half m (given .most) q low before (w .0 .left)))
           (c .if1 .came),
     )

@@ -40,13 +40,13 @@ module _ (c : tie.After-keep-row Inv-loop μ-loop) where
   abbrev later : List Position
   later =
       let at = c .before .before .before .before .before .before .before .before .before .before in
-      let given = at .before .before .before .before .args in
+      let given = at .before .before .before .before .before .args in
       words-from (given .xs .now) (at .loop .i + 1) (given .xn)
 
   abbrev others : List Position
   others =
       let at = c .before .before .before .before .before .before .before .before .before .before in
-      let given = at .before .before .before .before .args in
+      let given = at .before .before .before .before .before .args in
       words (given .ys .now) (given .yn)
 
   abbrev with-row : List Position
@@ -58,29 +58,36 @@ module _ (c : tie.After-keep-row Inv-loop μ-loop) where
   -- the array holds that, and the rows after it come from that to what all come to
   row-held :
       let at = c .before .before .before .before .before .before .before .before .before .before in
-      HoldsWords (at .before .before .before .before .args .room) with-row (c .keep-row .last .1 .1 .1 .1 .0) (c .keep-row .result)
+      HoldsWords (at .before .before .before .before .before .args .room) with-row (c .keep-row .last .1 .1 .1 .1 .0) (c .keep-row .result)
   unfolding words
   row-held = c .keep-row .ensures
 
   stepped :
       let at = c .before .before .before .before .before .before .before .before .before .before in
-      let given = at .before .before .before .before .args in
+      let given = at .before .before .before .before .before .args in
       rowsOf later others with-row ≡ rowsOf (words (given .xs .now) (given .xn)) others (words (given .out .now) (given .kept))
   unfolding rowsOf
   stepped =
       let rowed = c .before .before .before .before .before .before in
       let turn = rowed .before .before .before in
       let at = turn .before in
-      let given = at .before .before .before .before .args in
+      let given = at .before .before .before .before .before .args in
       rw (rowed .row .ensures .1)
       (ap (λ (l : List Position). rowsOf l others (words (at .loop .out) (at .loop .number)))
       (sym (words-front (given .xs .now) (at .loop .i) (given .xn) (turn .loop-test .taken) (omega arith)))
       ∙ at .loop .inv .4)
 
+returns : tie.Need-returns Inv-loop μ-loop
+unfolding words rowsOf
+returns c =
+    let given = c .before .before .before .before .args in
+    let none : given .xn ≡ 0 = omega (arith, c .if1 .taken) in
+    words-hold (given .out .now) (omega arith) (omega arith) (rw none refl)
+
 loop-holds : tie.Need-loop-holds Inv-loop μ-loop
 unfolding words
 loop-holds c =
-    let given = c .before .before .before .args in
+    let given = c .before .before .before .before .args in
     let e : given .xn - 0 ≡ given .xn = omega arith in
     (zero-le, omega arith, refl, refl, rw e)
 
@@ -116,7 +123,7 @@ part-keep-row-end c = search needs
 
 slice-aggregate-keep-row-2 : tie.Need-slice-aggregate-keep-row-2 Inv-loop μ-loop
 slice-aggregate-keep-row-2 c =
-    let given = c .before .before .before .before .before .before .before .before .before .before .before .before .args in
+    let given = c .before .before .before .before .before .before .before .before .before .before .before .before .before .args in
     sym (length-take-le (given .yn) (given .ys .now) (omega arith))
 
 keep-row-requires : tie.Need-keep-row-requires Inv-loop μ-loop
@@ -131,8 +138,8 @@ enum-told c = search needs
 same-length : tie.Need-same-length Inv-loop μ-loop
 same-length c = search needs
 
-returns : tie.Need-returns Inv-loop μ-loop
-returns c =
+returns-2 : tie.Need-returns-2 Inv-loop μ-loop
+returns-2 c =
     let called = c .before .before .before .before in
     held-full
     (omega (
@@ -161,11 +168,11 @@ loop-again c =
 same-length-2 : tie.Need-same-length-2 Inv-loop μ-loop
 same-length-2 c = search needs
 
-returns-2 : tie.Need-returns-2 Inv-loop μ-loop
+returns-3 : tie.Need-returns-3 Inv-loop μ-loop
 unfolding rowsOf
-returns-2 c =
+returns-3 c =
     let at = c .before in
-    let given = at .before .before .before .before .args in
+    let given = at .before .before .before .before .before .args in
     let e : given .xn - at .loop .i ≡ 0 = omega arith in
     words-hold (at .loop .out) (at .loop .inv .1) (omega arith) (rw e at (at .loop .inv .4))
 
@@ -175,6 +182,7 @@ keep-rows-spec =
     (tie.spec
     Inv-loop
     μ-loop
+    returns
     loop-holds
     mul-x
     shared-slice-read-x
@@ -191,8 +199,8 @@ keep-rows-spec =
     enum-known-found
     enum-told
     same-length
-    returns
+    returns-2
     loop-less
     loop-again
     same-length-2
-    returns-2)
+    returns-3)
