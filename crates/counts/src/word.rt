@@ -121,6 +121,7 @@ pub fn back(m: &[i8; 8], half: Half, bars: &[u64; 8], most: u64) -> u64
     let mut q = 0;
     while q < 8 {
         if q < half.targets {
+            // no higher than a byte has room for below its top bit
             let eased = count::lesser(count::less(m[q], half.marks[q]), 126);
             let all = count::to_byte(eased) as u64 * ONES;
             low = lesser(low, bars[q] | all);

@@ -49,6 +49,7 @@ pub fn cut(
     let Found::Number(n) = found else {
         return Found::Full;
     };
+    // the old list is not needed any more, and another array would have to be cleared
     words::sort(&next, n, &mut old);
     words::store(&old, n, a);
     Found::Number(n)
@@ -77,6 +78,7 @@ pub fn widen(
     let Found::Number(n) = found else {
         return Found::Full;
     };
+    // the old list is not needed any more, and another array would have to be cleared
     words::sort(&next, n, &mut old);
     words::store(&old, n, b);
     Found::Number(n)
