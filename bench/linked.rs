@@ -1,21 +1,7 @@
-//! The proved engine, linked into this program: `desk_solve` of include/feshamiru.h.
+//! The proved engine, linked into this program: `desk_solve` of include/feshamiru.rs.
 
 use crate::call::{Call, Outcome};
-
-extern "C" {
-    fn desk_solve(
-        table: *const u8,
-        table_length: usize,
-        k: u32,
-        room: u32,
-        winners: *mut u8,
-        winners_length: usize,
-        controller: *mut u8,
-        controller_length: usize,
-        answer: *mut u8,
-        answer_length: usize,
-    ) -> u32;
-}
+use crate::feshamiru::desk_solve;
 
 /// Solves into the buffers that are lent.
 pub fn solve(call: &Call, lent: &mut Outcome) {

@@ -13,6 +13,9 @@ mod search;
 mod stack;
 mod times;
 
+#[path = "../include/feshamiru.rs"]
+mod feshamiru;
+
 // Of the second program's modules not all is needed here.
 #[allow(dead_code)]
 #[path = "../tests/second/answer.rs"]

@@ -1,21 +1,10 @@
 //! A small program in Rust that calls the solver: it solves the table of tables/owed.table with
 //! patience 0 and prints the code and the controller's rows. README.md says how it is built.
 
-// include/feshamiru.h says what each is: a slice passes as a pointer and then a length.
-extern "C" {
-    fn desk_solve(
-        table: *const u8,
-        table_length: usize,
-        k: u32,
-        room: u32,
-        winners: *mut u8,
-        winners_length: usize,
-        controller: *mut u8,
-        controller_length: usize,
-        answer: *mut u8,
-        answer_length: usize,
-    ) -> u32;
-}
+#[path = "../../include/feshamiru.rs"]
+mod feshamiru;
+
+use feshamiru::desk_solve;
 
 const ROOM: usize = 256;
 

@@ -1,5 +1,6 @@
 //! The chain engine: a set is held by its maximal members only (source 003, section 6.1). It
-//! answers where the plain engine would have too many positions.
+//! answers where the plain engine would have too many positions. The two share no rounds and no
+//! rows, so that a fault of one is not a fault of both.
 
 use crate::answer::{start_first, winner_bytes, Room, Settled, Stop, FULL, NOTHING};
 use crate::table::{Side, Table};
