@@ -17,12 +17,13 @@ use Rattle.meaning.specs.Records.{Record, recordsOf, controller, outside}
 use Rattle.meaning.specs.Table.{Table, tableOf}
 use Rattle.meaning.specs.Rounds.{Set, allSafe, rounds, full}
 use Rattle.meaning.specs.Written.{winners, startState}
-use Rattle.meaning.specs.Join.{joined, pairs}
-use Rattle.meaning.specs.Answers.{startOf, Check, refused, judge, bound, room, roomToJoin, wrongLength, descent, dangling, tableChecks, stageChecks}
-use Rattle.meaning.specs.Answers.{Solved, unsolved, solvedFrom, solveChecks, solve, pairChecks, otherLetters, tooLarge, Joined, joinChecks, join, partsChecks, parts}
+use Rattle.meaning.specs.Join.{joined, pairs, joinedBytes}
+use Rattle.meaning.specs.Answers.{startOf, refused, Solved, unsolved, solvedFrom, solve, Joined, join, parts, unjoined, joinedInto}
+use Rattle.meaning.specs.Checks.{Check, judge, bound, room, roomToJoin, wrongLength, descent, dangling, tableChecks, stageChecks}
+use Rattle.meaning.specs.Checks.{solveChecks, pairChecks, otherLetters, tooLarge, joinChecks, partsChecks, Passes}
 use Rattle.meaning.proofs.Tests.{neither-right, first-le, cond-cases}
-use Rattle.meaning.proofs.Checks.{Passes, passes-at, passes-right}
-use Rattle.meaning.proofs.Answers.{joinedBytes, unjoined, joinedInto, solve-passes, parts-passes}
+use Rattle.meaning.proofs.Checks.{passes-at, passes-right}
+use Rattle.meaning.proofs.Answers.{solve-passes, parts-passes}
 use Rattle.meaning.proofs.Sound.{Sound, states-top, passes-sound, passes-paired}
 use Rattle.meaning.proofs.Buffers.{winners-number}
 use Rattle.meaning.proofs.JoinGood.{joined-length, joined-sound}

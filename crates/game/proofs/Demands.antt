@@ -14,12 +14,12 @@ use denote.Triple.Clauses.{AtExit}
 use Rattle.meaning.specs.declared.Answer.{Answer}
 use Rattle.meaning.specs.declared.Refusal.{Refusal}
 use Rattle.meaning.specs.Counting.{Position, below}
-use Rattle.meaning.specs.Answers.{numberOf, codeOf, startOf, Solved, solveChecks, solve}
-use Rattle.meaning.specs.Play.{Strategy, Wins, rowsIn, follow}
-use Rattle.meaning.proofs.Realizes.{Realizes}
-use Rattle.meaning.proofs.Checks.{Passes, first-failure}
-use Rattle.meaning.proofs.Answers.{stated}
-use Rattle.meaning.proofs.Readings.{winnerIn}
+use Rattle.meaning.specs.Answers.{numberOf, codeOf, startOf, Solved, solve}
+use Rattle.meaning.specs.Checks.{solveChecks, Passes}
+use Rattle.meaning.specs.Play.{Strategy, Wins, rowsIn, follow, Realizes}
+use Rattle.meaning.proofs.Checks.{first-failure}
+use Rattle.meaning.specs.Table.{stated}
+use Rattle.meaning.specs.Calls.{winnerIn}
 use Rattle.meaning.proofs.Demands as D
 use Rattle.game.specs.Finished.{leaves}
 use Rattle.game.proofs.solve as fn

@@ -13,7 +13,8 @@ use Rattle.meaning.specs.Lists.{written, place}
 use Rattle.meaning.specs.Table.{Table}
 use Rattle.meaning.specs.Counting.{Position, startPosition}
 use Rattle.meaning.specs.Written.{positionBytes, winnersBytes, covering, startState, rowBytes}
-use Rattle.meaning.specs.Answers.{check, refused, unsolved}
+use Rattle.meaning.specs.Answers.{refused, unsolved}
+use Rattle.meaning.specs.Checks.{check}
 use Rattle.meaning.proofs.Lists.{tab-length}
 use Rattle.game.specs.Finished.{rowsFrom, answered, finished, leaves, Bounded}
 use Rattle.game.proofs.Stepped.{below-same}

@@ -17,7 +17,8 @@ use Rattle.meaning.specs.Table.{Table, onOutput, onInput}
 use Rattle.meaning.specs.Counting.{Position, count, forward, below}
 use Rattle.meaning.specs.Rounds.{Set, winning, rounds, full}
 use Rattle.meaning.specs.Written.{Row, positionBytes, winners, winnersBytes, covering, afterRound, outputOf, startState, rowBytes, rowsOfState, controllerRows, stateOrder}
-use Rattle.meaning.specs.Answers.{Solved, check, judge, unsolved, solvedFrom, stageChecks, room}
+use Rattle.meaning.specs.Answers.{Solved, unsolved, solvedFrom}
+use Rattle.meaning.specs.Checks.{check, judge, stageChecks, room}
 use Rattle.meaning.proofs.Tests.{neither-left, neither-right, same-test, each-same, first-same}
 use Rattle.meaning.proofs.Lists.{tab-same, any-at, any-of, member-at}
 use Rattle.meaning.proofs.Steps.{forward-length}

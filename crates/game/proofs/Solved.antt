@@ -7,9 +7,9 @@ use Rattle.meaning.specs.declared.Answer.{Answer}
 use Rattle.meaning.specs.declared.Refusal.{Refusal}
 use Rattle.meaning.specs.declared.Refusal.the-variants.{Bound, Room}
 use Rattle.meaning.specs.Rounds.{allSafe}
-use Rattle.meaning.specs.Answers.{Check, check, refused, judge, room, tableChecks, stageChecks, Solved, unsolved, solvedFrom, solveChecks, solve}
-use Rattle.meaning.proofs.Checks.{Passes}
-use Rattle.meaning.proofs.Answers.{stated}
+use Rattle.meaning.specs.Answers.{refused, Solved, unsolved, solvedFrom, solve}
+use Rattle.meaning.specs.Checks.{Check, check, judge, room, tableChecks, stageChecks, solveChecks, Passes}
+use Rattle.meaning.specs.Table.{stated}
 use Rattle.table.specs.declared.Checked.the-variants.{Fails}
 use Rattle.table.specs.Checked.{checkedOf}
 use Rattle.game.specs.Finished.{leaves}

@@ -16,12 +16,13 @@ use Rattle.meaning.specs.declared.Refusal.the-variants.{Bound, Room, Full}
 use Rattle.meaning.specs.Records.{recordsOf, output, input}
 use Rattle.meaning.specs.Table.{Table, tableOf}
 use Rattle.meaning.specs.Rounds.{Set}
-use Rattle.meaning.specs.Answers.{Check, check, refused, judge, bound, room, tableChecks, stageChecks, Solved, unsolved, solvedFrom}
+use Rattle.meaning.specs.Answers.{refused, Solved, unsolved, solvedFrom}
+use Rattle.meaning.specs.Checks.{Check, check, judge, bound, room, tableChecks, stageChecks, Passes}
 use Rattle.meaning.proofs.Tests.{neither-left, neither-right}
 use Rattle.meaning.proofs.Rounds.{FirstSet}
 use Rattle.meaning.proofs.Good.{Good}
 use Rattle.meaning.proofs.Records.{letters-top}
-use Rattle.meaning.proofs.Checks.{Passes, judge-passes, judge-append}
+use Rattle.meaning.proofs.Checks.{judge-passes, judge-append}
 use Rattle.meaning.proofs.Sound.{passes-sound, passes-good}
 use Rattle.table.specs.declared.Checked.the-variants.{Fails}
 use Rattle.table.specs.Checked.{checkedOf}

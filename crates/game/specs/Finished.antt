@@ -12,7 +12,8 @@ use Rattle.meaning.specs.Table.{Table}
 use Rattle.meaning.specs.Counting.{Position, below}
 use Rattle.meaning.specs.Rounds.{Set}
 use Rattle.meaning.specs.Written.{Row, winnersBytes, afterRound, outputOf, startState, stateOrder, rowBytes, rowsOfState}
-use Rattle.meaning.specs.Answers.{Solved, check, judge, unsolved}
+use Rattle.meaning.specs.Answers.{Solved, unsolved}
+use Rattle.meaning.specs.Checks.{check, judge}
 
 -- the set that a list covers: the positions that are below some member
 abbrev pub under : List Position → Set

@@ -12,11 +12,12 @@ use denote.Ref.{now}
 use denote.Triple.Clauses.{AtExit}
 use Rattle.meaning.specs.declared.Answer.{Answer}
 use Rattle.meaning.specs.Records.{Record, recordsOf}
-use Rattle.meaning.specs.Answers.{codeOf, tableChecks, Solved, solve, pairChecks, join, parts}
-use Rattle.meaning.proofs.Checks.{Passes}
+use Rattle.meaning.specs.Answers.{codeOf, Solved, solve, join, parts}
+use Rattle.meaning.specs.Checks.{tableChecks, pairChecks, Passes}
 use Rattle.meaning.proofs.Join.{join-makes, bytes-grouped, pair-swapped, pair-then, pair-after}
 use Rattle.meaning.proofs.Demands as D
-use Rattle.meaning.proofs.Demands.{Three, made, recordAcross}
+use Rattle.meaning.proofs.Demands.{made, recordAcross}
+use Rattle.meaning.specs.Calls.{Three}
 use Rattle.game.specs.Finished.{leaves}
 use Rattle.game.proofs.Demands.{Call as Solve}
 use Rattle.join.specs.Joined.{joinedBytes}

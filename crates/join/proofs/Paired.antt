@@ -13,7 +13,7 @@ use Rattle.meaning.specs.declared.Refusal.{Refusal}
 use Rattle.meaning.specs.declared.Refusal.the-variants.{Letters, Size}
 use Rattle.meaning.specs.Records.{Record, recordsOf, at, blank, controller, world}
 use Rattle.meaning.specs.Table.{tableOf}
-use Rattle.meaning.specs.Answers.{Check, check, judge, tableChecks, otherLetters, tooLarge, pairChecks, wrongLength}
+use Rattle.meaning.specs.Checks.{Check, check, judge, tableChecks, otherLetters, tooLarge, pairChecks, wrongLength}
 use Rattle.meaning.proofs.Tests.{neither-right}
 use Rattle.meaning.proofs.Lists.{member-at}
 use Rattle.meaning.proofs.Records.{inside-bytes}

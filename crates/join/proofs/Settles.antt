@@ -13,7 +13,8 @@ use Rattle.meaning.specs.declared.Refusal.the-variants as R
 use Rattle.meaning.specs.Table.{Table}
 use Rattle.meaning.specs.Rounds.{Set}
 use Rattle.meaning.specs.Written.{winners}
-use Rattle.meaning.specs.Answers.{Check, refused, judge, stageChecks, unsolved}
+use Rattle.meaning.specs.Answers.{refused, unsolved}
+use Rattle.meaning.specs.Checks.{Check, judge, stageChecks}
 use Rattle.meaning.proofs.Rounds.{FirstSet}
 use Rattle.meaning.proofs.Maximal.{some-winner}
 use Rattle.game.specs.declared.rounds.Settled.{Settled}

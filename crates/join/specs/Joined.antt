@@ -6,7 +6,7 @@ use lib.ListN.{length}
 use lib.Seq.{sets}
 use Rattle.meaning.specs.Records.{Record, recordsOf, bytesOf, ofKind}
 use Rattle.meaning.specs.Join.{renumber, joined}
-use Rattle.meaning.specs.Answers.{Check, judge}
+use Rattle.meaning.specs.Checks.{Check, judge}
 use Rattle.join.specs.declared.pair.Paired.{Paired}
 use Rattle.join.specs.declared.pair.Paired.the-variants.{Passes, Fails}
 

@@ -11,7 +11,8 @@ use Rattle.meaning.specs.Counting.{Position}
 use Rattle.meaning.specs.Rounds.{allSafe, maximalMembers}
 use Rattle.meaning.specs.Written.{positionBytes}
 use Rattle.meaning.specs.Join.{joined, pairs}
-use Rattle.meaning.specs.Answers.{check, Solved, judge, stageChecks, unsolved, solvedFrom}
+use Rattle.meaning.specs.Answers.{Solved, unsolved, solvedFrom}
+use Rattle.meaning.specs.Checks.{check, judge, stageChecks}
 
 -- the list has, in eight counts, the maximal ones of "the pairs whose halves win alone"
 abbrev pub FirstPairs : List ℕ → List ℕ → ℕ → List Position → Type 0

@@ -9,7 +9,7 @@ ghost use lib.ListN.{length};
 ghost use Rattle.meaning.specs.Lists.{written};
 ghost use Rattle.meaning.specs.Records.{recordsOf, bytesOf};
 ghost use Rattle.meaning.specs.Join.{renumber as renumbered, upward as movedUpward};
-ghost use Rattle.meaning.specs.Answers.{tableChecks, pairChecks};
+ghost use Rattle.meaning.specs.Checks.{tableChecks, pairChecks};
 ghost use Rattle.table.specs.declared.Checked.{Checked};
 ghost use Rattle.table.specs.Packed.{recordIn};
 ghost use Rattle.table.specs.Checked.{checkedOf};

@@ -4,7 +4,7 @@ use table::Checked;
 use table::checks;
 use table::read;
 ghost use mathlib.Core.Path.{_≡_};
-ghost use Rattle.meaning.specs.Answers.{pairChecks};
+ghost use Rattle.meaning.specs.Checks.{pairChecks};
 ghost use Rattle.join.specs.Joined.{pairedOf};
 
 // What they come to: the refusal of the first that fails, its place, and which: 1 or 2 for a fault

@@ -18,7 +18,7 @@ ghost use lib.ListN.{length};
 ghost use Rattle.meaning.specs.Records.{recordsOf};
 ghost use Rattle.meaning.specs.Table.{tableOf};
 ghost use Rattle.meaning.specs.Rounds.{allSafe};
-ghost use Rattle.meaning.specs.Answers.{room as roomFor, tableChecks, pairChecks};
+ghost use Rattle.meaning.specs.Checks.{room as roomFor, tableChecks, pairChecks};
 ghost use Rattle.table.specs.declared.Checked.{Checked};
 ghost use Rattle.table.specs.Packed.{tableIn};
 ghost use Rattle.table.specs.Checked.{checkedOf};

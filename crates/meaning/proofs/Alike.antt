@@ -1,99 +1,112 @@
--- Joined the other way round, or with itself, a table's start position wins where it won before (Swap.antt), so the verdict is the same; swapped,
--- the rounds, the number of winners and FULL are the same too (Widths.antt).
+-- Joined the other way round, or with itself, a table's start position wins where it won before (Swap.antt), so the verdict is the same, whatever
+-- the buffers and the room, where neither call is full (NotFull.antt); swapped, the rounds, the number of winners and FULL are the same too
+-- (Widths.antt).
 use mathlib.Core.Path.{_≡_, refl, sym, ap, _∙_}
 use mathlib.Core.Logic.{_↔_}
 use mathlib.Core.Bool.{Bool, true, false, cond}
-use mathlib.Core.List.{List, [], _∷_, _++_}
+use mathlib.Core.List.{List, _++_}
 use Prim.Native.Nat.{ℕ}
 use native.Mathlib.Omega.{arith}
 use lib.ListN.{length, length-append}
 use lib.Dec.{ltb}
 use borrow.Author.Tests.{ltb-true, lt-ltb}
 use Rattle.meaning.specs.declared.Verdict.the-variants.{Realizable, Unrealizable}
-use Rattle.meaning.specs.declared.Refusal.the-variants.{Full}
 use Rattle.meaning.specs.Records.{recordsOf}
-use Rattle.meaning.specs.Table.{Table}
+use Rattle.meaning.specs.Table.{Table, stated}
 use Rattle.meaning.specs.Counting.{Position, startPosition}
 use Rattle.meaning.specs.Rounds.{Set, allSafe, winning}
 use Rattle.meaning.specs.Written.{winners, startState}
-use Rattle.meaning.specs.Answers.{numberOf, codeOf, bound, room, stageChecks, Solved, unsolved, solvedFrom, solve, pairChecks}
+use Rattle.meaning.specs.Join.{joinedTable, joinedBytes}
+use Rattle.meaning.specs.Checks.{Passes, bound, room, pairChecks}
+use Rattle.meaning.specs.Answers.{codeOf, refused, Solved, unsolved, answered, solvedFrom, solve}
+use Rattle.meaning.specs.Calls.{code}
 use Rattle.meaning.specs.Play.{Wins}
 use Rattle.meaning.proofs.Tests.{same-test}
 use Rattle.meaning.proofs.Rounds.{FirstSet, allSafe-first}
 use Rattle.meaning.proofs.Winning.{winning-wins}
 use Rattle.meaning.proofs.Realizes.{start-length, start-covered}
-use Rattle.meaning.proofs.Checks.{Passes, judge-same}
-use Rattle.meaning.proofs.Answers.{stated, joinedBytes, joinedTable, verdictOf}
 use Rattle.meaning.proofs.Sound.{sound-good, passes-first, passes-paired}
 use Rattle.meaning.proofs.Follows.{winningSet}
 use Rattle.meaning.proofs.Union.{Union, controllers-sum, start-append}
 use Rattle.meaning.proofs.Swap.{swap-rounds, swap-winning, self-winning}
-use Rattle.meaning.proofs.Widths.{swap-full, swap-winners}
+use Rattle.meaning.proofs.Widths.{swap-winners}
 use Rattle.meaning.proofs.Join.{joined-union, joined-good, pair-swapped}
-use Rattle.meaning.proofs.NotFull.{granted, staged, solve-staged, joined-staged, stage-unless-full}
+use Rattle.meaning.proofs.NotFull.{bounded, solve-unless-full, joined-unless-full}
+
+-- the code, the rounds and the number of winners of two outcomes are the same
+pub record SameNumbers (s o : Solved) : Type 0 where
+  pub same-code : code (s .answer) ≡ code (o .answer)
+  pub same-rounds : s .answer .rounds ≡ o .answer .rounds
+  pub same-number : s .answer .winners ≡ o .answer .winners
+
+-- 2 refuses alike: what two outcomes have in common, they have after it, if all refusals by 2 have it
+bounded-alike : {A : Type 0} (part : Solved → A) (K : ℕ) (win con win′ con′ : List ℕ)
+    → part (unsolved win con (bound K)) ≡ part (unsolved win′ con′ (bound K)) → (s o : Solved) → part s ≡ part o
+    → part (bounded K win con s) ≡ part (bounded K win′ con′ o)
+bounded-alike part K win con win′ con′ refusal s o e = go (bound K .failed)
+  where
+    go : (b : Bool) → part (cond b (unsolved win con (bound K)) s) ≡ part (cond b (unsolved win′ con′ (bound K)) o)
+    go true = refusal
+    go false = e
 
 -- the code says whether the start position is in the winning set
 start-code : (K : ℕ) (t : Table) (X : Set) (win con : List ℕ) → FirstSet K t X
-    → codeOf (verdictOf (solvedFrom K t X win con)) ≡ cond (winning K t X (startPosition t)) 0 1
-unfolding solvedFrom
-start-code K t X win con first = rw won (go (winning K t X (startPosition t)))
+    → code (solvedFrom K t X win con .answer) ≡ cond (winning K t X (startPosition K t)) 0 1
+unfolding solvedFrom answered
+start-code K t X win con first = rw won (go (winning K t X (startPosition K t)))
   where
     s : ℕ
-    s = startState t (winners K t X)
+    s = startState K t (winners K t X)
 
-    won : ltb s (length (winners K t X)) ≡ winning K t X (startPosition t)
+    won : ltb s (length (winners K t X)) ≡ winning K t X (startPosition K t)
     won =
         let number = length (winners K t X) in
         let covered = start-covered K t X first in
-        same-test (ltb s number) (winning K t X (startPosition t)) (λ l. covered .0 (ltb-true s number l)) (λ w. lt-ltb s number (covered .1 w))
+        same-test (ltb s number) (winning K t X (startPosition K t)) (λ l. covered .0 (ltb-true s number l)) (λ w. lt-ltb s number (covered .1 w))
 
     go : (b : Bool) → codeOf (cond b (Realizable s) Unrealizable) ≡ cond b 0 1
     go true = refl
     go false = refl
 
+-- what solving a table from all safe positions comes to
+abbrev granted : ℕ → Table → List ℕ → List ℕ → Solved
+granted K t win con = solvedFrom K t (allSafe K (t .controllers)) win con
+
 -- two tables whose start positions win alike have the same code
-same-code : (K : ℕ) (win con : List ℕ) (t u : Table) → winningSet K t (startPosition t) ≡ winningSet K u (startPosition u)
-    → codeOf (verdictOf (granted K win con t)) ≡ codeOf (verdictOf (granted K win con u))
-same-code K win con t u e =
+granted-code : (K : ℕ) (t u : Table) (win con win′ con′ : List ℕ)
+    → winningSet K t (startPosition K t) ≡ winningSet K u (startPosition K u)
+    → code (granted K t win con .answer) ≡ code (granted K u win′ con′ .answer)
+granted-code K t u win con win′ con′ e =
     start-code K t (allSafe K (t .controllers)) win con (allSafe-first K t) ∙ ap (λ (b : Bool). cond b 0 1) e
-    ∙ sym (start-code K u (allSafe K (u .controllers)) win con (allSafe-first K u))
+    ∙ sym (start-code K u (allSafe K (u .controllers)) win′ con′ (allSafe-first K u))
 
--- swapped: the same checks fail, so the codes are the same, FULL's too, and the rounds and numbers of winners
+-- swapped
 module _ (K : ℕ) (t u whole other : Table) (un : Union t u whole) (on : Union u t other) where
-  swap-checks : (N : ℕ) → stageChecks 0 K N whole (allSafe K (whole .controllers)) ≡ stageChecks 0 K N other (allSafe K (other .controllers))
-  unfolding stageChecks
-  swap-checks N = rw (swap-full K t u whole other un on N, swap-winners K t u whole other un on)
-
-  swap-staged : {A : Type 0} (part : Solved → A) (N : ℕ) (win con : List ℕ) → part (granted K win con whole) ≡ part (granted K win con other)
-      → part (staged K N win con whole) ≡ part (staged K N win con other)
-  swap-staged part N win con e =
-      rw (swap-checks N)
-      (judge-same part (bound K ∷ room N win con ∷ stageChecks 0 K N other (allSafe K (other .controllers))) (unsolved win con)
-      (granted K win con whole) (granted K win con other) e)
-
-  swap-start : winningSet K whole (startPosition whole) ≡ winningSet K other (startPosition other)
+  swap-start : winningSet K whole (startPosition K whole) ≡ winningSet K other (startPosition K other)
   swap-start =
-      rw (start-append t u whole un, start-append u t other on)
-      (sym (swap-winning K t u whole other un on (startPosition t) (startPosition u) (start-length t) (start-length u)))
+      rw (start-append t u whole un K, start-append u t other on K)
+      (sym (swap-winning K t u whole other un on (startPosition K t) (startPosition K u) (start-length K t) (start-length K u)))
 
-pub swap-codes : (one two : List ℕ) (K N : ℕ) (win con : List ℕ) → Passes (pairChecks one two)
-    → (codeOf (verdictOf (solve (joinedBytes one two) K N win con)) ≡ codeOf (verdictOf (solve (joinedBytes two one) K N win con)))
-    × (solve (joinedBytes one two) K N win con .answer .rounds ≡ solve (joinedBytes two one) K N win con .answer .rounds)
-    × (solve (joinedBytes one two) K N win con .answer .winners ≡ solve (joinedBytes two one) K N win con .answer .winners)
-unfolding solvedFrom
-swap-codes one two K N win con p =
-    let t = stated one in
-    let u = stated two in
-    let whole = joinedTable one two in
-    let other = joinedTable two one in
-    let un = joined-union one two p in
-    let on = joined-union two one (pair-swapped one two p) in
-    rw (joined-staged one two K N win con p, joined-staged two one K N win con (pair-swapped one two p)) (
-      swap-staged K t u whole other un on (λ s. codeOf (verdictOf s)) N win con
-          (same-code K win con whole other (swap-start K t u whole other un on)),
-      swap-staged K t u whole other un on (λ s. s .answer .rounds) N win con (sym (swap-rounds K t u whole other un on)),
-      swap-staged K t u whole other un on (λ s. s .answer .winners) N win con (swap-winners K t u whole other un on),
-    )
+  swap-numbers : (win con win′ con′ : List ℕ) → SameNumbers (bounded K win con (granted K whole win con)) (bounded K win′ con′ (granted K other win′ con′))
+  unfolding solvedFrom answered unsolved refused
+  swap-numbers win con win′ con′ =
+      let s = granted K whole win con in
+      let o = granted K other win′ con′ in
+      record {
+        same-code = bounded-alike (λ s. code (s .answer)) K win con win′ con′ refl s o (granted-code K whole other win con win′ con′ swap-start);
+        same-rounds = bounded-alike (λ s. s .answer .rounds) K win con win′ con′ refl s o (sym (swap-rounds K t u whole other un on));
+        same-number = bounded-alike (λ s. s .answer .winners) K win con win′ con′ refl s o (swap-winners K t u whole other un on);
+      }
+
+pub swap-answers : (one two : List ℕ) (K N M : ℕ) (win con win′ con′ : List ℕ) → Passes (pairChecks one two)
+    → room N win con .failed ≡ false → room M win′ con′ .failed ≡ false
+    → (code (solve (joinedBytes one two) K N win con .answer) ≡ 11 → ⊥) → (code (solve (joinedBytes two one) K M win′ con′ .answer) ≡ 11 → ⊥)
+    → SameNumbers (solve (joinedBytes one two) K N win con) (solve (joinedBytes two one) K M win′ con′)
+swap-answers one two K N M win con win′ con′ p room-here room-there spare spare′ =
+    let q = pair-swapped one two p in
+    rw (joined-unless-full one two K N win con p room-here spare, joined-unless-full two one K M win′ con′ q room-there spare′)
+    (swap-numbers K (stated one) (stated two) (joinedTable one two) (joinedTable two one) (joined-union one two p) (joined-union two one q)
+    win con win′ con′)
 
 pub swap-wins : (one two : List ℕ) → Passes (pairChecks one two) → (K : ℕ) (F G : Position) → length F ≡ stated one .controllers
     → length G ≡ stated two .controllers → Wins K (joinedTable one two) (F ++ G) → Wins K (joinedTable two one) (G ++ F)
@@ -110,27 +123,21 @@ swap-wins one two p K F G eF eG w =
     (omega (arith, length-append F G, controllers-sum (stated one) (stated two) whole un)) .1 w)
 
 -- beside itself
-pub self-codes : (one : List ℕ) (K N : ℕ) (win con : List ℕ) → Passes (pairChecks one one)
-    → (codeOf (verdictOf (solve (joinedBytes one one) K N win con)) ≡ numberOf Full → ⊥)
-    → (codeOf (verdictOf (solve one K N win con)) ≡ numberOf Full → ⊥)
-    → codeOf (verdictOf (solve (joinedBytes one one) K N win con)) ≡ codeOf (verdictOf (solve one K N win con))
-self-codes one K N win con p spare spare′ =
+pub self-answers : (one : List ℕ) (K N M : ℕ) (win con win′ con′ : List ℕ) → Passes (pairChecks one one)
+    → room N win con .failed ≡ false → room M win′ con′ .failed ≡ false
+    → (code (solve (joinedBytes one one) K N win con .answer) ≡ 11 → ⊥) → (code (solve one K M win′ con′ .answer) ≡ 11 → ⊥)
+    → code (solve (joinedBytes one one) K N win con .answer) ≡ code (solve one K M win′ con′ .answer)
+unfolding unsolved refused
+self-answers one K N M win con win′ con′ p room-here room-there spare spare′ =
     let t = stated one in
     let whole = joinedTable one one in
     let un = joined-union one one p in
     let good = sound-good (recordsOf one) (passes-paired one one p .first) in
-    let beside = joined-staged one one K N win con p in
-    let alone = solve-staged one K N win con (passes-first one one p 0) in
-    let start : winningSet K whole (startPosition whole) ≡ winningSet K t (startPosition t) =
-    rw (start-append t t whole un) (self-winning K t whole un (good .some-output) (startPosition t) (start-length t)) in
-    rw (
-      beside,
-      stage-unless-full K N win con whole (joined-good one one p .some-output) (rw beside at spare),
-      alone,
-      stage-unless-full K N win con t (good .some-output) (rw alone at spare′),
-    )
-    (judge-same (λ s. codeOf (verdictOf s)) (bound K ∷ room N win con ∷ []) (unsolved win con)
-    (granted K win con whole) (granted K win con t) (same-code K win con whole t start))
+    let start : winningSet K whole (startPosition K whole) ≡ winningSet K t (startPosition K t) =
+    rw (start-append t t whole un K) (self-winning K t whole un (good .some-output) (startPosition K t) (start-length K t)) in
+    rw (joined-unless-full one one K N win con p room-here spare, solve-unless-full one K M win′ con′ (passes-first one one p 0) room-there spare′)
+    (bounded-alike (λ s. code (s .answer)) K win con win′ con′ refl (granted K whole win con) (granted K t win′ con′)
+    (granted-code K whole t win con win′ con′ start))
 
 pub self-wins-alike : (one : List ℕ) → Passes (pairChecks one one) → (K : ℕ) (F : Position) → length F ≡ stated one .controllers
     → Wins K (joinedTable one one) (F ++ F) ↔ Wins K (stated one) F

@@ -15,26 +15,15 @@ use Rattle.meaning.specs.declared.Verdict.the-variants.{Realizable, Unre
 use Rattle.meaning.specs.declared.Refusal.{Refusal}
 use Rattle.meaning.specs.declared.Refusal.the-variants.{Full}
 use Rattle.meaning.specs.Lists.{written}
-use Rattle.meaning.specs.Records.{recordsOf, bytesOf}
-use Rattle.meaning.specs.Table.{Table, tableOf}
+use Rattle.meaning.specs.Table.{Table, stated}
 use Rattle.meaning.specs.Rounds.{Set, allSafe, maximalMembers}
 use Rattle.meaning.specs.Written.{winners, startState, rowBytes, controllerRows}
-use Rattle.meaning.specs.Join.{joined, pairs}
-use Rattle.meaning.specs.Answers.{Check, refused, judge, bound, room, tableChecks, stageChecks, Solved, unsolved, solvedFrom, solveChecks}
-use Rattle.meaning.specs.Answers.{solve, pairChecks, Joined, joinChecks, join, partsChecks, parts}
+use Rattle.meaning.specs.Join.{pairs, joinedTable, joinedBytes}
+use Rattle.meaning.specs.Answers.{refused, Solved, unsolved, solvedFrom, solve, join, parts, unjoined, joinedInto, answered}
+use Rattle.meaning.specs.Checks.{Check, judge, bound, room, tableChecks, stageChecks, solveChecks, partsStages, check}
+use Rattle.meaning.specs.Checks.{pairChecks, joinChecks, partsChecks, Passes}
 use Rattle.meaning.proofs.Tests.{clash}
-use Rattle.meaning.proofs.Checks.{Passes, passes-at, passes-left, passes-right, Judged, judged, refusal-leaves}
-
--- the table that bytes state
-abbrev pub stated : List ℕ → Table
-stated bytes = tableOf (recordsOf bytes)
-
--- the bytes of the joined table, and that table
-abbrev pub joinedBytes : List ℕ → List ℕ → List ℕ
-joinedBytes one two = bytesOf (joined (recordsOf one) (recordsOf two))
-
-abbrev pub joinedTable : List ℕ → List ℕ → Table
-joinedTable one two = tableOf (joined (recordsOf one) (recordsOf two))
+use Rattle.meaning.proofs.Checks.{passes-at, passes-left, passes-right, Judged, judged, refusal-leaves}
 
 -- the verdict where no check fails
 cond-realizable : (b : Bool) (s start : ℕ) → (cond b (Realizable s) Unrealizable ≡ Realizable start) ↔ ((b ≡ true) × (start ≡ s))
@@ -57,19 +46,19 @@ pub record Answered (cs : List Check) (K : ℕ) (t : Table) (X : Set) (win con :
   pub judged : Judged verdictOf cs (unsolved win con) (solvedFrom K t X win con) s
   -- codes 0 and 1: "the start position wins", "it doesn't"
   pub realizable-exactly : (start : ℕ)
-      → (verdictOf s ≡ Realizable start) ↔ (Passes cs × (start ≡ startState t (winners K t X)) × (start < length (winners K t X)))
-  pub unrealizable-exactly : (verdictOf s ≡ Unrealizable) ↔ (Passes cs × (length (winners K t X) ≤ startState t (winners K t X)))
+      → (verdictOf s ≡ Realizable start) ↔ (Passes cs × (start ≡ startState K t (winners K t X)) × (start < length (winners K t X)))
+  pub unrealizable-exactly : (verdictOf s ≡ Unrealizable) ↔ (Passes cs × (length (winners K t X) ≤ startState K t (winners K t X)))
   -- "write no byte of a result buffer"
   pub refusal-leaves : (r : Refusal) → verdictOf s ≡ Refused r → (s .winnersAfter ≡ win) × (s .controllerAfter ≡ con)
   -- "controller buffer untouched"
   pub unrealizable-leaves : verdictOf s ≡ Unrealizable → s .controllerAfter ≡ con
 
-answered : (cs : List Check) (K : ℕ) (t : Table) (X : Set) (win con : List ℕ)
+stage-answered : (cs : List Check) (K : ℕ) (t : Table) (X : Set) (win con : List ℕ)
     → Answered cs K t X win con (judge cs (unsolved win con) (solvedFrom K t X win con))
-unfolding solvedFrom unsolved refused
-answered cs K t X win con =
+unfolding solvedFrom answered controllerRows unsolved refused
+stage-answered cs K t X win con =
     let ws = winners K t X in
-    let s = startState t ws in
+    let s = startState K t ws in
     let won = ltb s (length ws) in
     let j = judged verdictOf cs (unsolved win con) (solvedFrom K t X win con) (λ c. refl) (cond-granted won s) in
     let exact = j .granted-exactly Unrealizable (λ r. cond-granted false 0 r) in
@@ -104,7 +93,7 @@ pub solve-answered : (bytes : List ℕ) (K N : ℕ) (win con : List ℕ)
 unfolding solve
 solve-answered bytes K N win con =
     let t = stated bytes in
-    answered (solveChecks bytes K N win con) K t (allSafe K (t .controllers)) win con
+    stage-answered (solveChecks bytes K N win con) K t (allSafe K (t .controllers)) win con
 
 -- by parts
 pub parts-answered : (one two : List ℕ) (K N : ℕ) (win con : List ℕ)
@@ -112,20 +101,10 @@ pub parts-answered : (one two : List ℕ) (K N : ℕ) (win con : List ℕ)
     (pairs K (stated one) (stated two)) win con (parts one two K N win con)
 unfolding parts
 parts-answered one two K N win con =
-    answered (partsChecks one two K N win con) K (joinedTable one two)
+    stage-answered (partsChecks one two K N win con) K (joinedTable one two)
     (pairs K (stated one) (stated two)) win con
 
 -- join
-abbrev pub unjoined : List ℕ → Check → Joined
-unjoined out c = record { answer = refused c; outAfter = out }
-
-abbrev pub joinedInto : List ℕ → List ℕ → Joined
-joinedInto new out =
-    record {
-      answer = record { verdict = Realizable 0; place = length new; which = 0; rounds = 0; winners = 0 };
-      outAfter = written new out;
-    }
-
 pub join-judged : (one two out : List ℕ)
     → Judged (λ s. s .answer .verdict) (joinChecks one two out) (unjoined out) (joinedInto (joinedBytes one two) out)
     (join one two out)
@@ -173,25 +152,23 @@ pub record PartsPasses (one two : List ℕ) (K N : ℕ) (win con : List ℕ) : T
       (stageChecks 0 K N (joinedTable one two) (pairs K (stated one) (stated two)))
 
 pub parts-passes : (one two : List ℕ) (K N : ℕ) (win con : List ℕ) → Passes (partsChecks one two K N win con) → PartsPasses one two K N win con
-unfolding partsChecks
+unfolding partsChecks partsStages
 parts-passes one two K N win con p =
-    let t = stated one in
-    let u = stated two in
     let whole = joinedTable one two in
-    let X = pairs K t u in
+    let X = pairs K (stated one) (stated two) in
     let cs = partsChecks one two K N win con in
-    let crowded : Check = record { failed = ltb N (length (maximalMembers K (whole .controllers) X)); refusal = Full; faultAt = 0; table = 0 } in
-    let stage = stageChecks 1 K N t (allSafe K (t .controllers)) in
-    let next = stageChecks 2 K N u (allSafe K (u .controllers)) in
+    let crowded = check Full 0 0 (ltb N (length (maximalMembers K (whole .controllers) X))) in
+    let stage = stageChecks 1 K N (stated one) (allSafe K (stated one .controllers)) in
+    let next = stageChecks 2 K N (stated two) (allSafe K (stated two .controllers)) in
     let last = stageChecks 0 K N whole X in
-    let q = passes-right (bound K ∷ room N win con ∷ []) (pairChecks one two ++ stage ++ next ++ (crowded ∷ last)) p in
-    let before = passes-left (pairChecks one two ++ stage ++ next) (crowded ∷ last) q in
-    let earlier = passes-left (pairChecks one two ++ stage) next before in
+    let q = passes-right (bound K ∷ room N win con ∷ []) (pairChecks one two ++ partsStages one two K N) p in
+    let stages = passes-right (pairChecks one two) (partsStages one two K N) q in
+    let alone = passes-left (stage ++ next) (crowded ∷ last) stages in
     record {
       in-bound = passes-at cs p 0 (bound K) (omega arith);
       roomy = passes-at cs p 1 (bound K) (omega arith);
-      pair = passes-left (pairChecks one two) stage earlier;
-      first-stage = passes-right (pairChecks one two) stage earlier;
-      second-stage = passes-right (pairChecks one two ++ stage) next before;
-      last-stage = passes-right (crowded ∷ []) last (passes-right (pairChecks one two ++ stage ++ next) (crowded ∷ last) q);
+      pair = passes-left (pairChecks one two) (partsStages one two K N) q;
+      first-stage = passes-left stage next alone;
+      second-stage = passes-right stage next alone;
+      last-stage = passes-right (crowded ∷ []) last (passes-right (stage ++ next) (crowded ∷ last) stages);
     }

@@ -14,19 +14,20 @@ use lib.Dec.{eqb, ltb, lit<}
 use borrow.Author.Tests.{ltb-true, ltb-false}
 use Rattle.meaning.specs.Lists.{largest, written}
 use Rattle.meaning.specs.Records.{recordsOf, input}
-use Rattle.meaning.specs.Table.{Table, tableOf}
+use Rattle.meaning.specs.Table.{Table, tableOf, stated}
 use Rattle.meaning.specs.Counting.{Position, count}
 use Rattle.meaning.specs.Rounds.{Set, allSafe, setW, rounds, winning, widthOfRound, full}
 use Rattle.meaning.specs.Written.{winners, positionBytes, winnersBytes, startState, Row, rowBytes, controllerRows}
-use Rattle.meaning.specs.Join.{joined, pairs}
-use Rattle.meaning.specs.Answers.{Check, judge, bound, room, roomToJoin, wrongLength, stageChecks, Solved, unsolved, solvedFrom, solveChecks}
-use Rattle.meaning.specs.Answers.{solve, pairChecks, joinChecks, join, partsChecks, parts}
+use Rattle.meaning.specs.Join.{joined, pairs, joinedBytes, joinedTable}
+use Rattle.meaning.specs.Answers.{Solved, unsolved, solvedFrom, solve, join, parts, answered}
+use Rattle.meaning.specs.Checks.{Check, judge, bound, room, roomToJoin, wrongLength, stageChecks, solveChecks}
+use Rattle.meaning.specs.Checks.{pairChecks, joinChecks, partsChecks, Passes}
 use Rattle.meaning.proofs.Tests.{neither-left, neither-right, largest-at}
 use Rattle.meaning.proofs.Lists.{tab-length, flatMap-length}
 use Rattle.meaning.proofs.Rows.{rows-number}
 use Rattle.meaning.proofs.Records.{letters-top}
-use Rattle.meaning.proofs.Checks.{Passes, passes-at, passes-right, Failure, first-failure, judge-passes, judge-fails}
-use Rattle.meaning.proofs.Answers.{stated, joinedBytes, joinedTable, join-judged, solve-passes, parts-passes}
+use Rattle.meaning.proofs.Checks.{passes-at, passes-right, Failure, first-failure, judge-passes, judge-fails}
+use Rattle.meaning.proofs.Answers.{join-judged, solve-passes, parts-passes}
 use Rattle.meaning.proofs.Sound.{passes-sound, passes-paired}
 use Rattle.meaning.proofs.JoinGood.{joined-length, joined-sound}
 
@@ -80,10 +81,10 @@ pub record Kept (inputs : ℕ) (win con : List ℕ) (s : Solved) : Type 0 where
   pub controller-stays : Stays (s .answer .winners * inputs * 4) con (s .controllerAfter)
 
 granted-kept : (K N : ℕ) (t : Table) (X : Set) (win con : List ℕ) → Fits K N t X win con → Kept (t .inputs) win con (solvedFrom K t X win con)
-unfolding room solvedFrom
+unfolding room solvedFrom answered controllerRows
 granted-kept K N t X win con fits =
     let ws = winners K t X in
-    let s = startState t ws in
+    let s = startState K t ws in
     let none = eqb N 0 || ltb 256 N in
     let small = ltb (length win) (8 * N) in
     let smaller = ltb (length con) (32 * N) in

@@ -10,15 +10,16 @@ use Rattle.meaning.specs.declared.Verdict.the-variants.{Realizable, Unre
 use Rattle.meaning.specs.declared.Refusal.the-variants.{Bound, Room, Length, Order, Gap, Full, Letters}
 use Rattle.meaning.specs.Lists.{written}
 use Rattle.meaning.specs.Records.{recordsOf, bytesOf, limits, limit, outside, ascends, same, ofKind}
-use Rattle.meaning.specs.Table.{letters, markOf, startOf, edgeOf, tableOf}
+use Rattle.meaning.specs.Table.{letters, markIn, startIn, markOf, startsOf, edgeOf, tableOf}
 use Rattle.meaning.specs.Counting.{plus, forward, safe, below, back, startPosition}
 use Rattle.meaning.specs.Rounds.{allSafe, setA, setB, setW, positions, maximal, maximalMembers, equal, rounds, winning, widthOfRound, full}
 use Rattle.meaning.specs.Written.{winners, positionBytes, winnersBytes, covering, afterRound, outputOf, startState, stateOrder, rowBytes}
-use Rattle.meaning.specs.Written.{rowsOfState, controllerRows}
+use Rattle.meaning.specs.Written.{leadsBack, rowsOfState, rowsFrom, controllerRows}
 use Rattle.meaning.specs.Join.{byKind, upward, renumber, joined, pairs}
-use Rattle.meaning.specs.Answers.{refused, bound, room, roomToJoin, wrongLength, descent, misnumbered, noStart, dangling, total, gap}
-use Rattle.meaning.specs.Answers.{tableChecks, stageChecks, Solved, unsolved, solvedFrom, solveChecks, solve, otherLetters, tooLarge}
-use Rattle.meaning.specs.Answers.{pairChecks, joinChecks, join, partsChecks, parts}
+use Rattle.meaning.specs.Answers.{refused, Solved, unsolved, solvedFrom, solve, join, parts, answered}
+use Rattle.meaning.specs.Checks.{bound, room, roomToJoin, wrongLength, descent, misnumbered, noStart, dangling, total, gap}
+use Rattle.meaning.specs.Checks.{tableChecks, stageChecks, solveChecks, otherLetters, tooLarge, pairChecks, joinChecks, partsChecks}
+use Rattle.meaning.specs.Checks.{partsStages}
 
 -- four digits, a byte each
 abbrev pub record4 : ℕ → ℕ → ℕ → ℕ → List ℕ
@@ -118,5 +119,5 @@ expected =
     ∷ []
 
 pub C1-to-C12 : map outcome calls ≡ expected
-unfolding flatMap recordsOf bytesOf limits limit outside ascends same ofKind letters markOf startOf edgeOf tableOf plus forward safe below back startPosition allSafe setA setB setW positions equal rounds winning maximal maximalMembers widthOfRound full winners positionBytes winnersBytes covering afterRound outputOf startState stateOrder rowBytes rowsOfState controllerRows byKind upward renumber joined pairs refused bound room roomToJoin wrongLength descent misnumbered noStart dangling total gap tableChecks stageChecks unsolved solvedFrom solveChecks solve otherLetters tooLarge pairChecks joinChecks join partsChecks parts outcome
+unfolding flatMap recordsOf bytesOf limits limit outside ascends same ofKind letters markIn startIn markOf startsOf edgeOf tableOf plus forward safe below back startPosition allSafe setA setB setW positions equal rounds winning maximal maximalMembers widthOfRound full winners positionBytes winnersBytes covering afterRound leadsBack outputOf startState stateOrder rowBytes rowsOfState rowsFrom controllerRows byKind upward renumber joined pairs refused bound room roomToJoin wrongLength descent misnumbered noStart dangling total gap tableChecks stageChecks unsolved answered solvedFrom solveChecks solve otherLetters tooLarge pairChecks joinChecks join partsStages partsChecks parts outcome
 C1-to-C12 = refl

@@ -12,13 +12,9 @@ use Rattle.meaning.specs.declared.Verdict.{Verdict}
 use Rattle.meaning.specs.declared.Verdict.the-variants.{Refused}
 use Rattle.meaning.specs.declared.Refusal.{Refusal}
 use Rattle.meaning.specs.Lists.{every}
-use Rattle.meaning.specs.Answers.{Check, judge}
+use Rattle.meaning.specs.Checks.{Check, judge, Fails, Passes, FailsWith}
 use Rattle.meaning.proofs.Tests.{both, both-left, both-right, decided}
 use Rattle.meaning.proofs.Lists.{member-at, every-at, every-of}
-
--- no check fails
-abbrev pub Passes : List Check → Type 0
-Passes cs = every (λ (c : Check). not (c .failed)) cs ≡ true
 
 -- each of them passes
 pub passes-member : (cs : List Check) → Passes cs → (c : Check) → List·Memᴰ c cs → c .failed ≡ false
@@ -41,13 +37,7 @@ passes-left cs ds p = passes-of cs (λ c m. passes-member (cs ++ ds) p c (Memᴰ
 pub passes-right : (cs ds : List Check) → Passes (cs ++ ds) → Passes ds
 passes-right cs ds p = passes-of ds (λ c m. passes-member (cs ++ ds) p c (Memᴰ·append-right cs m))
 
--- check number i of a list is the first that fails
-pub record Fails (cs : List Check) (i : ℕ) (c : Check) : Type 0 where
-  pub there : (i < length cs) × (getD cs i c ≡ c)
-  pub fails : c .failed ≡ true
-  pub earlier : (j : ℕ) → j < i → getD cs j c .failed ≡ false
-
--- one is
+-- one of a list is the first that fails
 abbrev pub Failure : List Check → Type 0
 Failure cs = (i : ℕ) × (c : Check) × Fails cs i c
 
@@ -102,10 +92,6 @@ pub judge-same : {A B : Type 0} (part : A → B) (cs : List Check) (refuse : Che
 judge-same part [] refuse grant other e = e
 judge-same part (c ∷ cs) refuse grant other e =
     ⊎-elim (λ (f : c .failed ≡ true). rw f) (λ f. rw f (judge-same part cs refuse grant other e)) (decided (c .failed))
-
--- a check with this refusal is the first that fails
-abbrev pub FailsWith : List Check → Refusal → Type 0
-FailsWith cs r = (i : ℕ) × (c : Check) × Fails cs i c × (c .refusal ≡ r)
 
 -- Demand 1 of any call, of its checks, what it comes to where one fails and where none does, and its outcome
 pub record Judged {A : Type 0} (verdict : A → Verdict) (cs : List Check) (refuse : Check → A) (grant out : A) : Type 0 where

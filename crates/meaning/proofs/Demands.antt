@@ -1,253 +1,196 @@
--- The demands of document 00, line by line, for the outcomes that the definitions give. What the calls promise is these outcomes, so each line
--- holds of the calls.
-use mathlib.Core.Path.{_≡_, refl, ap}
-use mathlib.Core.Logic.{_↔_, _⊎_, Iff·trans}
+-- The demands of document 00, line by line, for whatever a caller learns from a call, refused or not: specs/Calls.antt has the records of the
+-- calls and the words, specs/Demands.antt the sentences of demands 1 and 2. Each crate that has a call ties what its contract tells to such a
+-- record.
+use mathlib.Core.Path.{_≡_, refl, sym, ap, _∙_}
+use mathlib.Core.Logic.{_↔_, Iff·trans}
 use mathlib.Core.Bool.{true, false}
 use mathlib.Core.List.{map, List, _++_, List·Memᴰ}
-use Prim.Native.Nat.{ℕ, _+_, _*_, _≤_, _<_}
-use lib.ListN.{length, take}
-use Rattle.meaning.specs.declared.Refusal.{Refusal}
+use Prim.Native.Nat.{ℕ, _<_}
+use lib.ListN.{length, take, drop}
 use Rattle.meaning.specs.declared.Refusal.the-variants.{Full}
 use Rattle.meaning.specs.Records.{Record, recordsOf}
-use Rattle.meaning.specs.Table.{tableOf}
-use Rattle.meaning.specs.Counting.{Position, below}
-use Rattle.meaning.specs.Rounds.{allSafe, setW, maximalMembers, rounds}
-use Rattle.meaning.specs.Join.{joined, pairs}
-use Rattle.meaning.specs.Answers.{numberOf, codeOf, startOf, bound, room, tableChecks, Solved, solveChecks, solve, pairChecks, Joined}
-use Rattle.meaning.specs.Answers.{joinChecks, join, partsChecks, parts}
-use Rattle.meaning.specs.Play.{Strategy, Wins, rowsIn, follow}
-use Rattle.meaning.proofs.Realizes.{Realizes}
+use Rattle.meaning.specs.Table.{stated, tableOf}
+use Rattle.meaning.specs.Counting.{Position}
+use Rattle.meaning.specs.Rounds.{allSafe}
+use Rattle.meaning.specs.Join.{joined, joinedTable, joinedBytes, pairs}
+use Rattle.meaning.specs.Checks.{Passes, bound, tableChecks, solveChecks, joinChecks, partsChecks}
+use Rattle.meaning.specs.Answers.{refused, Joined}
+use Rattle.meaning.specs.Play.{Wins}
+use Rattle.meaning.specs.Calls.{SolveCall, PartsCall, JoinCall, code, Unrefused, Accepted, AcceptedJoin}
+use Rattle.meaning.specs.Calls.{SameResult, wrote, Two, Three, controllerAcross, worldAcross, recordAcross}
+use Rattle.meaning.specs.Demands.{Refuses, Solves, TableFull, PartsFull}
 use Rattle.meaning.proofs.Records.{records-back}
-use Rattle.meaning.proofs.Checks.{Passes, FailsWith}
 use Rattle.meaning.proofs.Codes.{code-refused}
-use Rattle.meaning.proofs.Answers.{joinedBytes, solve-answered, parts-answered, join-judged, join-refusal-leaves}
+use Rattle.meaning.proofs.Checks.{refusal-leaves}
+use Rattle.meaning.proofs.Told.{told, solve-told, parts-told, join-told}
 use Rattle.meaning.proofs.Sound.{passes-paired}
-use Rattle.meaning.proofs.Readings.{winnerIn}
 use Rattle.meaning.proofs.Union.{controllers-sum, worlds-sum}
-use Rattle.meaning.proofs.JoinOrder.{across, across-twice, acrossRecord, joined-swapped}
-use Rattle.meaning.proofs.Join.{joined-union, joined-passes, join-grants, join-makes, bytes-grouped, pair-swapped, pair-then, pair-after}
-use Rattle.meaning.proofs.Stages.{realizable-exactly, unrealizable-exactly, controller-realizes, winners-cover, solve-stage, parts-stage}
-use Rattle.meaning.proofs.Full.{Crowded, Overfull, solve-full, parts-full}
+use Rattle.meaning.proofs.JoinOrder.{across-twice, joined-swapped}
+use Rattle.meaning.proofs.Join.{joined-union, joined-passes, join-makes, join-grants, bytes-grouped, pair-swapped, pair-then}
+use Rattle.meaning.proofs.Join.{pair-after, pairs-win-alone, wins-alone}
+use Rattle.meaning.proofs.Stages.{stage-solves, solve-stage, parts-stage, stage-refuses}
+use Rattle.meaning.proofs.Full.{solve-full, parts-full}
 use Rattle.meaning.proofs.Afresh.{parts-agree}
-use Rattle.meaning.proofs.Alike.{swap-codes, swap-wins, self-codes, self-wins-alike}
+use Rattle.meaning.proofs.Alike.{SameNumbers, swap-answers, swap-wins, self-answers, self-wins-alike}
 
--- the code of an outcome
-abbrev pub code : Solved → ℕ
-code s = codeOf (s .answer .verdict)
+-- ── 1 and 2 ──
+-- "Every table, patience count and room gets an answer.": each of these holds for every table, K, room and buffers, and the kit proves that the
+-- code ends
+module _ (bytes : List ℕ) (K N : ℕ) (call : SolveCall bytes K N) where
+  pub solve-refuses : Refuses (solveChecks bytes K N (call .lent .winnersBefore) (call .lent .controllerBefore)) (call .left .answer)
+      ((call .left .winnersAfter ≡ call .lent .winnersBefore) × (call .left .controllerAfter ≡ call .lent .controllerBefore))
+  solve-refuses = stage-refuses (solve-told bytes K N call)
 
--- ── 1 ──
--- "Every table, patience count and room gets an answer. Bad input is refused by a numbered reason, in a fixed order": a reason's number is
--- given exactly if its check is the first of the call's that fails
-pub solve-refused-in-order : (bytes : List ℕ) (K N : ℕ) (win con : List ℕ) (r : Refusal)
-    → (code (solve bytes K N win con) ≡ numberOf r) ↔ FailsWith (solveChecks bytes K N win con) r
-solve-refused-in-order bytes K N win con r =
-    Iff·trans (code-refused (solve bytes K N win con .answer .verdict) r) (solve-answered bytes K N win con .judged .refused-exactly r)
+  pub solve-solves : Unrefused (call .left .answer) → Solves K (stated bytes) (allSafe K (stated bytes .controllers)) (call .left)
+  solve-solves =
+      stage-solves (solve-told bytes K N call) (solve-stage bytes K N (call .lent .winnersBefore) (call .lent .controllerBefore))
 
-pub parts-refused-in-order : (one two : List ℕ) (K N : ℕ) (win con : List ℕ) (r : Refusal)
-    → (code (parts one two K N win con) ≡ numberOf r) ↔ FailsWith (partsChecks one two K N win con) r
-parts-refused-in-order one two K N win con r =
-    Iff·trans (code-refused (parts one two K N win con .answer .verdict) r) (parts-answered one two K N win con .judged .refused-exactly r)
+  -- of a call that passes 2 to 10
+  pub solve-full-exactly : bound K .failed ≡ false → Accepted N (call .lent) → Passes (tableChecks 0 bytes)
+      → (code (call .left .answer) ≡ 11) ↔ TableFull bytes K N
+  solve-full-exactly b accepted p =
+      Iff·trans (solve-refuses .in-order Full) (solve-full bytes K N (call .lent .winnersBefore) (call .lent .controllerBefore) b accepted p)
 
-pub join-refused-in-order : (one two out : List ℕ) (r : Refusal)
-    → (codeOf (join one two out .answer .verdict) ≡ numberOf r) ↔ FailsWith (joinChecks one two out) r
-join-refused-in-order one two out r =
-    Iff·trans (code-refused (join one two out .answer .verdict) r) (join-judged one two out .refused-exactly r)
+-- by parts, where the table is the joined one
+module _ (one two : List ℕ) (K N : ℕ) (call : PartsCall one two K N) where
+  pub parts-refuses : Refuses (partsChecks one two K N (call .lent .winnersBefore) (call .lent .controllerBefore)) (call .left .answer)
+      ((call .left .winnersAfter ≡ call .lent .winnersBefore) × (call .left .controllerAfter ≡ call .lent .controllerBefore))
+  parts-refuses = stage-refuses (parts-told one two K N call)
 
--- "and a refused call writes nothing to the result buffers"
-pub solve-refused-writes-nothing : (bytes : List ℕ) (K N : ℕ) (win con : List ℕ) (r : Refusal) → code (solve bytes K N win con) ≡ numberOf r
-    → (solve bytes K N win con .winnersAfter ≡ win) × (solve bytes K N win con .controllerAfter ≡ con)
-solve-refused-writes-nothing bytes K N win con r e =
-    solve-answered bytes K N win con .refusal-leaves r (code-refused (solve bytes K N win con .answer .verdict) r .0 e)
+  pub parts-solves : Unrefused (call .left .answer) → Solves K (joinedTable one two) (pairs K (stated one) (stated two)) (call .left)
+  parts-solves =
+      stage-solves (parts-told one two K N call) (parts-stage one two K N (call .lent .winnersBefore) (call .lent .controllerBefore))
 
-pub parts-refused-writes-nothing : (one two : List ℕ) (K N : ℕ) (win con : List ℕ) (r : Refusal) → code (parts one two K N win con) ≡ numberOf r
-    → (parts one two K N win con .winnersAfter ≡ win) × (parts one two K N win con .controllerAfter ≡ con)
-parts-refused-writes-nothing one two K N win con r e =
-    parts-answered one two K N win con .refusal-leaves r (code-refused (parts one two K N win con .answer .verdict) r .0 e)
+  -- of a call that passes 2 to 10, 13 and 14
+  pub parts-full-exactly : bound K .failed ≡ false → Accepted N (call .lent) → Two one two
+      → (code (call .left .answer) ≡ 11) ↔ PartsFull one two K N
+  parts-full-exactly b accepted p =
+      Iff·trans (parts-refuses .in-order Full) (parts-full one two K N (call .lent .winnersBefore) (call .lent .controllerBefore) b accepted p)
 
-pub join-refused-writes-nothing : (one two out : List ℕ) (r : Refusal) → codeOf (join one two out .answer .verdict) ≡ numberOf r
-    → join one two out .outAfter ≡ out
-join-refused-writes-nothing one two out r e =
-    join-refusal-leaves one two out r (code-refused (join one two out .answer .verdict) r .0 e)
-
--- ""Full" is given exactly when a set named in document 01 needs more positions than the room allows": for a call that passes 2 to 10
-pub solve-full-exactly : (bytes : List ℕ) (K N : ℕ) (win con : List ℕ) → bound K .failed ≡ false → room N win con .failed ≡ false
-    → Passes (tableChecks 0 bytes)
-    → (code (solve bytes K N win con) ≡ 11) ↔ ((r : ℕ) × (r ≤ rounds K (tableOf (recordsOf bytes)) (allSafe K (tableOf (recordsOf bytes) .controllers)))
-    × Crowded K (tableOf (recordsOf bytes)) (setW K (tableOf (recordsOf bytes)) (allSafe K (tableOf (recordsOf bytes) .controllers)) r) N)
-solve-full-exactly bytes K N win con b m p =
-    Iff·trans (solve-refused-in-order bytes K N win con Full) (solve-full bytes K N win con b m p)
-
--- by parts also 13 and 14; each table solved alone, the list of pairs, and the joined table
-pub parts-full-exactly : (one two : List ℕ) (K N : ℕ) (win con : List ℕ) → bound K .failed ≡ false → room N win con .failed ≡ false
-    → Passes (pairChecks one two)
-    → (code (parts one two K N win con) ≡ 11)
-    ↔ ((Overfull K (tableOf (recordsOf one)) (allSafe K (tableOf (recordsOf one) .controllers)) N
-    ⊎ Overfull K (tableOf (recordsOf two)) (allSafe K (tableOf (recordsOf two) .controllers)) N)
-    ⊎ ((N < length (maximalMembers K (tableOf (joined (recordsOf one) (recordsOf two)) .controllers)
-    (pairs K (tableOf (recordsOf one)) (tableOf (recordsOf two)))))
-    ⊎ Overfull K (tableOf (joined (recordsOf one) (recordsOf two))) (pairs K (tableOf (recordsOf one)) (tableOf (recordsOf two))) N))
-parts-full-exactly one two K N win con b m p =
-    Iff·trans (parts-refused-in-order one two K N win con Full) (parts-full one two K N win con b m p)
-
--- ── 2 ──
--- "Unless refused, the answer is "realizable" exactly if some way of choosing outputs from the inputs so far keeps every run of the table to at
--- most K entries into marked states, for every finite sequence of inputs."
-pub solve-realizable-exactly : (bytes : List ℕ) (K N : ℕ) (win con : List ℕ) → Passes (solveChecks bytes K N win con)
-    → (code (solve bytes K N win con) ≡ 0) ↔ ((σ : Strategy) × Realizes K (tableOf (recordsOf bytes)) σ)
-solve-realizable-exactly bytes K N win con p =
-    realizable-exactly (solve-answered bytes K N win con) (solve-stage bytes K N win con) p
-
-pub solve-unrealizable-exactly : (bytes : List ℕ) (K N : ℕ) (win con : List ℕ) → Passes (solveChecks bytes K N win con)
-    → (code (solve bytes K N win con) ≡ 1) ↔ (((σ : Strategy) × Realizes K (tableOf (recordsOf bytes)) σ) → ⊥)
-solve-unrealizable-exactly bytes K N win con p =
-    unrealizable-exactly (solve-answered bytes K N win con) (solve-stage bytes K N win con) p
-
--- "The controller written does so.": its rows, read back from the bytes and followed from the answer's start
-pub solve-controller-realizes : (bytes : List ℕ) (K N : ℕ) (win con : List ℕ) → code (solve bytes K N win con) ≡ 0
-    → Realizes K (tableOf (recordsOf bytes))
-    (follow (rowsIn (take (solve bytes K N win con .answer .winners * tableOf (recordsOf bytes) .inputs * 4) (solve bytes K N win con .controllerAfter)))
-    (startOf (solve bytes K N win con .answer .verdict)))
-solve-controller-realizes bytes K N win con e =
-    controller-realizes (solve-answered bytes K N win con) (solve-stage bytes K N win con) e
-
--- "The winning list covers exactly the positions from which, their counts already spent, this can be done."
-pub solve-winners-cover : (bytes : List ℕ) (K N : ℕ) (win con : List ℕ) → Passes (solveChecks bytes K N win con)
-    → (F : Position) → length F ≡ tableOf (recordsOf bytes) .controllers
-    → Wins K (tableOf (recordsOf bytes)) F ↔ ((i : ℕ) × (i < solve bytes K N win con .answer .winners)
-    × (below F (winnerIn (tableOf (recordsOf bytes) .controllers) (solve bytes K N win con .winnersAfter) i) ≡ true))
-solve-winners-cover bytes K N win con p F e =
-    winners-cover (solve-answered bytes K N win con) (solve-stage bytes K N win con) p F e
-
--- the same of solving by parts, where the table is the joined one
-pub parts-realizable-exactly : (one two : List ℕ) (K N : ℕ) (win con : List ℕ) → Passes (partsChecks one two K N win con)
-    → (code (parts one two K N win con) ≡ 0) ↔ ((σ : Strategy) × Realizes K (tableOf (joined (recordsOf one) (recordsOf two))) σ)
-parts-realizable-exactly one two K N win con p =
-    realizable-exactly (parts-answered one two K N win con) (parts-stage one two K N win con) p
-
-pub parts-unrealizable-exactly : (one two : List ℕ) (K N : ℕ) (win con : List ℕ) → Passes (partsChecks one two K N win con)
-    → (code (parts one two K N win con) ≡ 1) ↔ (((σ : Strategy) × Realizes K (tableOf (joined (recordsOf one) (recordsOf two))) σ) → ⊥)
-parts-unrealizable-exactly one two K N win con p =
-    unrealizable-exactly (parts-answered one two K N win con) (parts-stage one two K N win con) p
-
-pub parts-controller-realizes : (one two : List ℕ) (K N : ℕ) (win con : List ℕ) → code (parts one two K N win con) ≡ 0
-    → Realizes K (tableOf (joined (recordsOf one) (recordsOf two)))
-    (follow (rowsIn (take (parts one two K N win con .answer .winners * tableOf (joined (recordsOf one) (recordsOf two)) .inputs * 4)
-    (parts one two K N win con .controllerAfter))) (startOf (parts one two K N win con .answer .verdict)))
-parts-controller-realizes one two K N win con e =
-    controller-realizes (parts-answered one two K N win con) (parts-stage one two K N win con) e
-
-pub parts-winners-cover : (one two : List ℕ) (K N : ℕ) (win con : List ℕ) → Passes (partsChecks one two K N win con)
-    → (F : Position) → length F ≡ tableOf (joined (recordsOf one) (recordsOf two)) .controllers
-    → Wins K (tableOf (joined (recordsOf one) (recordsOf two))) F ↔ ((i : ℕ) × (i < parts one two K N win con .answer .winners)
-    × (below F (winnerIn (tableOf (joined (recordsOf one) (recordsOf two)) .controllers) (parts one two K N win con .winnersAfter) i) ≡ true))
-parts-winners-cover one two K N win con p F e =
-    winners-cover (parts-answered one two K N win con) (parts-stage one two K N win con) p F e
+-- a join
+pub join-refuses : (one two : List ℕ) (call : JoinCall one two)
+    → Refuses (joinChecks one two (call .lent)) (call .left .answer) (call .left .outAfter ≡ call .lent)
+unfolding refused
+join-refuses one two call =
+    let j = join-told one two call in
+    record {
+      in-order = λ r. Iff·trans (code-refused _ r) (j .refused-exactly r);
+      by-the-first = λ i c f. ap (λ (o : Joined). o .answer) (j .refuses i c f);
+      writes-nothing = λ r e. refusal-leaves j (λ o. o .outAfter) (call .lent) (λ c. refl) r (code-refused _ r .0 e);
+    }
 
 -- ── 3 ──
--- "Take good tables with the same letters, one K, room that reason 3 accepts, and a joined size within limits": two tables that pass 4 to 10, 13
--- and 14 (`Passes (pairChecks one two)`), and for three that size too
-pub record Three (a b c : List ℕ) : Type 0 where
-  pub first-two : Passes (pairChecks a b)
-  pub last-two : Passes (pairChecks b c)
-  pub controllers : tableOf (recordsOf a) .controllers + tableOf (recordsOf b) .controllers + tableOf (recordsOf c) .controllers ≤ 8
-  pub worlds : tableOf (recordsOf a) .worlds + tableOf (recordsOf b) .worlds + tableOf (recordsOf c) .worlds ≤ 8
-
--- the bytes that a join wrote
-abbrev pub made : Joined → List ℕ
-made j = take (j .answer .place) (j .outAfter)
-
+-- "Take good tables with the same letters, one K, room that reason 3 accepts, and a joined size within limits.": `Two` and `Three` tables, and
+-- `Accepted` room, each call with its own buffers
 -- the join of good tables is a good table
-pub join-good : (one two out : List ℕ) → 4160 ≤ length out → Passes (pairChecks one two)
-    → (codeOf (join one two out .answer .verdict) ≡ 0) × ((which : ℕ) → Passes (tableChecks which (made (join one two out))))
-join-good one two out h p =
-    (ap (λ (j : Joined). codeOf (j .answer .verdict)) (join-grants one two out h p), rw (join-makes one two out h p) (joined-passes one two p))
+pub join-good : (one two : List ℕ) → Two one two → (call : JoinCall one two) → AcceptedJoin (call .lent)
+    → (code (call .left .answer) ≡ 0) × ((which : ℕ) → Passes (tableChecks which (wrote (call .left))))
+join-good one two p call room =
+    told call (λ j. (code (j .answer) ≡ 0) × ((which : ℕ) → Passes (tableChecks which (wrote j)))) (
+      ap (λ (j : Joined). code (j .answer)) (join-grants one two (call .lent) room p),
+      rw (join-makes one two (call .lent) room p) (joined-passes one two p),
+    )
 
--- "Joining may be grouped anyhow with equal bytes": the whole outcomes are equal, and neither is refused
-pub join-grouped : (a b c out : List ℕ) → 4160 ≤ length out → Three a b c
-    → (join (made (join a b out)) c out ≡ join a (made (join b c out)) out) × (codeOf (join (made (join a b out)) c out .answer .verdict) ≡ 0)
-join-grouped a b c out h three =
-    let then = pair-then a b c (three .first-two) (three .last-two) (three .controllers) (three .worlds) in
-    let after = pair-after a b c (three .first-two) (three .last-two) (three .controllers) (three .worlds) in
-    rw (
-      join-makes a b out h (three .first-two),
-      join-makes b c out h (three .last-two),
-      join-grants (joinedBytes a b) c out h then,
-      join-grants a (joinedBytes b c) out h after,
-      bytes-grouped a b c,
-    ) (refl, refl)
+-- what it wrote
+wrote-joined : (one two : List ℕ) → Two one two → (call : JoinCall one two) → AcceptedJoin (call .lent) → wrote (call .left) ≡ joinedBytes one two
+wrote-joined one two p call room = told call (λ j. wrote j ≡ joinedBytes one two) (join-makes one two (call .lent) room p)
 
--- swapped, the first table's state p of a side stands after the second's m states, at m + p, and the second's state p, which stood after the
--- first's n states, at p (`across n m`): controllers, worlds, and a record with its states so renumbered
-abbrev pub controllerAcross : List ℕ → List ℕ → ℕ → ℕ
-controllerAcross one two = across (tableOf (recordsOf one) .controllers) (tableOf (recordsOf two) .controllers)
-
-abbrev pub worldAcross : List ℕ → List ℕ → ℕ → ℕ
-worldAcross one two = across (tableOf (recordsOf one) .worlds) (tableOf (recordsOf two) .worlds)
-
-abbrev pub recordAcross : List ℕ → List ℕ → Record → Record
-recordAcross one two =
-    let t = tableOf (recordsOf one) in
-    let u = tableOf (recordsOf two) in
-    acrossRecord (t .controllers) (t .worlds) (u .controllers) (u .worlds)
+-- "Joining may be grouped anyhow with equal bytes": neither is refused, and the bytes are the same
+pub join-grouped : (a b c : List ℕ) → Three a b c → (ab : JoinCall a b) (bc : JoinCall b c) → AcceptedJoin (ab .lent) → AcceptedJoin (bc .lent)
+    → (then : JoinCall (wrote (ab .left)) c) (after : JoinCall a (wrote (bc .left))) → AcceptedJoin (then .lent) → AcceptedJoin (after .lent)
+    → (code (then .left .answer) ≡ 0) × (code (after .left .answer) ≡ 0) × (wrote (then .left) ≡ wrote (after .left))
+join-grouped a b c three ab bc room-ab room-bc then after room-then room-after =
+    let first = wrote-joined a b (three .first-two) ab room-ab in
+    let last = wrote-joined b c (three .last-two) bc room-bc in
+    let left = rw (← first) at (pair-then a b c (three .first-two) (three .last-two) (three .controllers) (three .worlds)) in
+    let right = rw (← last) at (pair-after a b c (three .first-two) (three .last-two) (three .controllers) (three .worlds)) in (
+      join-good (wrote (ab .left)) c left then room-then .0,
+      join-good a (wrote (bc .left)) right after room-after .0,
+      wrote-joined (wrote (ab .left)) c left then room-then
+          ∙ ap (λ (l : List ℕ). joinedBytes l c) first
+          ∙ bytes-grouped a b c
+          ∙ sym (ap (joinedBytes a) last)
+          ∙ sym (wrote-joined a (wrote (bc .left)) right after room-after),
+    )
 
 -- "and swapped with only the states renumbered": the swapped join has exactly the records of the other, so renumbered,
-pub join-swapped : (one two out : List ℕ) → 4160 ≤ length out → Passes (pairChecks one two) → (r : Record)
-    → List·Memᴰ r (recordsOf (made (join two one out))) ↔ List·Memᴰ r (map (recordAcross one two) (recordsOf (made (join one two out))))
+pub join-swapped : (one two : List ℕ) → Two one two → (call : JoinCall one two) (swap : JoinCall two one) → AcceptedJoin (call .lent)
+    → AcceptedJoin (swap .lent) → (r : Record)
+    → List·Memᴰ r (recordsOf (wrote (swap .left))) ↔ List·Memᴰ r (map (recordAcross one two) (recordsOf (wrote (call .left))))
 unfolding tableOf
-join-swapped one two out h p r =
+join-swapped one two p call swap room-call room-swap r =
     rw (
-      join-makes one two out h p,
-      join-makes two one out h (pair-swapped one two p),
+      wrote-joined one two p call room-call,
+      wrote-joined two one (pair-swapped one two p) swap room-swap,
       records-back (joined (recordsOf one) (recordsOf two)),
       records-back (joined (recordsOf two) (recordsOf one)),
     ) (joined-swapped (recordsOf one) (recordsOf two) (passes-paired one two p) r)
 
 -- renumbering there and back changes no state of the joined table,
-pub swapped-back : (one two : List ℕ) → Passes (pairChecks one two)
-    → ((p : ℕ) → p < tableOf (joined (recordsOf one) (recordsOf two)) .controllers → controllerAcross two one (controllerAcross one two p) ≡ p)
-    × ((p : ℕ) → p < tableOf (joined (recordsOf one) (recordsOf two)) .worlds → worldAcross two one (worldAcross one two p) ≡ p)
+pub swapped-back : (one two : List ℕ) → Two one two
+    → ((p : ℕ) → p < joinedTable one two .controllers → controllerAcross two one (controllerAcross one two p) ≡ p)
+    × ((p : ℕ) → p < joinedTable one two .worlds → worldAcross two one (worldAcross one two p) ≡ p)
 swapped-back one two p =
-    let t = tableOf (recordsOf one) in
-    let u = tableOf (recordsOf two) in
-    let whole = tableOf (joined (recordsOf one) (recordsOf two)) in
+    let t = stated one in
+    let u = stated two in
+    let whole = joinedTable one two in
     let union = joined-union one two p in (
       λ q l. across-twice (t .controllers) (u .controllers) q (rw (controllers-sum t u whole union) at l),
       λ q l. across-twice (t .worlds) (u .worlds) q (rw (worlds-sum t u whole union) at l),
     )
 
 -- what wins in the one wins in the other with its halves swapped,
-pub swapped-wins : (one two : List ℕ) → Passes (pairChecks one two) → (K : ℕ) (F G : Position) → length F ≡ tableOf (recordsOf one) .controllers
-    → length G ≡ tableOf (recordsOf two) .controllers → Wins K (tableOf (joined (recordsOf one) (recordsOf two))) (F ++ G)
-    → Wins K (tableOf (joined (recordsOf two) (recordsOf one))) (G ++ F)
+pub swapped-wins : (one two : List ℕ) → Two one two → (K : ℕ) (F G : Position) → length F ≡ stated one .controllers
+    → length G ≡ stated two .controllers → Wins K (joinedTable one two) (F ++ G) → Wins K (joinedTable two one) (G ++ F)
 swapped-wins = swap-wins
 
--- and so the codes, FULL's too, the rounds and the numbers of winners are the same
-pub swapped-verdict : (one two out : List ℕ) (K N : ℕ) (win con : List ℕ) → 4160 ≤ length out → Passes (pairChecks one two)
-    → (code (solve (made (join one two out)) K N win con) ≡ code (solve (made (join two one out)) K N win con))
-    × (solve (made (join one two out)) K N win con .answer .rounds ≡ solve (made (join two one out)) K N win con .answer .rounds)
-    × (solve (made (join one two out)) K N win con .answer .winners ≡ solve (made (join two one out)) K N win con .answer .winners)
-swapped-verdict one two out K N win con h p =
-    rw (join-makes one two out h p, join-makes two one out h (pair-swapped one two p)) (swap-codes one two K N win con p)
+-- and so the codes, the rounds and the numbers of winners are the same, wherever neither was refused as full
+pub swapped-verdict : (one two : List ℕ) (K N M : ℕ) → Two one two → (call : JoinCall one two) (swap : JoinCall two one)
+    → AcceptedJoin (call .lent) → AcceptedJoin (swap .lent)
+    → (here : SolveCall (wrote (call .left)) K N) (there : SolveCall (wrote (swap .left)) K M) → Accepted N (here .lent) → Accepted M (there .lent)
+    → (code (here .left .answer) ≡ 11 → ⊥) → (code (there .left .answer) ≡ 11 → ⊥) → SameNumbers (here .left) (there .left)
+swapped-verdict one two K N M p call swap room-call room-swap here there room-here room-there =
+    rw (
+      here .promise,
+      there .promise,
+      wrote-joined one two p call room-call,
+      wrote-joined two one (pair-swapped one two p) swap room-swap,
+    )
+    (swap-answers one two K N M (here .lent .winnersBefore) (here .lent .controllerBefore) (there .lent .winnersBefore)
+    (there .lent .controllerBefore) p room-here room-there)
+
+-- By parts over winning as in 2: a pair is in the first set exactly if its halves win alone,
+pub first-set-exactly : (one two : List ℕ) → Two one two → (K : ℕ) (F : Position) → length F ≡ joinedTable one two .controllers
+    → (pairs K (stated one) (stated two) F ≡ true)
+    ↔ (Wins K (stated one) (take (stated one .controllers) F) × Wins K (stated two) (drop (stated one .controllers) F))
+first-set-exactly = pairs-win-alone
+
+-- and a position that wins in the joined table has halves that win alone
+pub halves-win-alone : (one two : List ℕ) → Two one two → (K : ℕ) (F : Position) → length F ≡ joinedTable one two .controllers
+    → Wins K (joinedTable one two) F → Wins K (stated one) (take (stated one .controllers) F) × Wins K (stated two) (drop (stated one .controllers) F)
+halves-win-alone = wins-alone
 
 -- "Solving the parts and then the joined table held to the parts' winning positions gives the same verdict, winning list and controller as solving
 -- the joined table afresh, wherever neither was refused as full."
-pub parts-afresh : (one two out : List ℕ) (K N : ℕ) (win con : List ℕ) → 4160 ≤ length out → Passes (pairChecks one two)
-    → (code (parts one two K N win con) ≡ 11 → ⊥) → (code (solve (made (join one two out)) K N win con) ≡ 11 → ⊥)
-    → (parts one two K N win con .answer .verdict ≡ solve (made (join one two out)) K N win con .answer .verdict)
-    × (parts one two K N win con .answer .winners ≡ solve (made (join one two out)) K N win con .answer .winners)
-    × (parts one two K N win con .winnersAfter ≡ solve (made (join one two out)) K N win con .winnersAfter)
-    × (parts one two K N win con .controllerAfter ≡ solve (made (join one two out)) K N win con .controllerAfter)
-parts-afresh one two out K N win con h p f g =
-    rw (join-makes one two out h p) (parts-agree one two K N win con p f (rw (join-makes one two out h p) at g))
+pub parts-afresh : (one two : List ℕ) (K N M : ℕ) → Two one two → (whole : JoinCall one two) → AcceptedJoin (whole .lent)
+    → (byParts : PartsCall one two K N) (afresh : SolveCall (wrote (whole .left)) K M) → Accepted N (byParts .lent) → Accepted M (afresh .lent)
+    → (code (byParts .left .answer) ≡ 11 → ⊥) → (code (afresh .left .answer) ≡ 11 → ⊥)
+    → SameResult (joinedTable one two) (byParts .left) (afresh .left)
+parts-afresh one two K N M p whole room byParts afresh room-here room-there =
+    rw (byParts .promise, afresh .promise, wrote-joined one two p whole room)
+    (parts-agree one two K N M (byParts .lent .winnersBefore) (byParts .lent .controllerBefore) (afresh .lent .winnersBefore)
+    (afresh .lent .controllerBefore) p room-here room-there)
 
 -- "A table joined with itself has its own verdict, full aside.": as winning is meant in 2,
-pub self-wins : (one : List ℕ) → Passes (pairChecks one one) → (K : ℕ) (F : Position) → length F ≡ tableOf (recordsOf one) .controllers
-    → Wins K (tableOf (joined (recordsOf one) (recordsOf one))) (F ++ F) ↔ Wins K (tableOf (recordsOf one)) F
+pub self-wins : (one : List ℕ) → Two one one → (K : ℕ) (F : Position) → length F ≡ stated one .controllers
+    → Wins K (joinedTable one one) (F ++ F) ↔ Wins K (stated one) F
 self-wins = self-wins-alike
 
 -- and in the answers
-pub self-verdict : (one out : List ℕ) (K N : ℕ) (win con : List ℕ) → 4160 ≤ length out → Passes (pairChecks one one)
-    → (code (solve (made (join one one out)) K N win con) ≡ 11 → ⊥) → (code (solve one K N win con) ≡ 11 → ⊥)
-    → code (solve (made (join one one out)) K N win con) ≡ code (solve one K N win con)
-self-verdict one out K N win con h p f g =
-    rw (join-makes one one out h p) (self-codes one K N win con p (rw (join-makes one one out h p) at f) g)
+pub self-verdict : (one : List ℕ) (K N M : ℕ) → Two one one → (whole : JoinCall one one) → AcceptedJoin (whole .lent)
+    → (twice : SolveCall (wrote (whole .left)) K N) (once : SolveCall one K M) → Accepted N (twice .lent) → Accepted M (once .lent)
+    → (code (twice .left .answer) ≡ 11 → ⊥) → (code (once .left .answer) ≡ 11 → ⊥) → code (twice .left .answer) ≡ code (once .left .answer)
+self-verdict one K N M p whole room twice once room-here room-there =
+    rw (twice .promise, once .promise, wrote-joined one one p whole room)
+    (self-answers one K N M (twice .lent .winnersBefore) (twice .lent .controllerBefore) (once .lent .winnersBefore)
+    (once .lent .controllerBefore) p room-here room-there)

@@ -14,26 +14,22 @@ use lib.Dec.{eqb, ltb, lit<}
 use borrow.Author.Tests.{ltb-true, lt-ltb, ne-eqb}
 use Rattle.meaning.specs.declared.Refusal.the-variants.{Full, Nothing}
 use Rattle.meaning.specs.Lists.{largest}
-use Rattle.meaning.specs.Records.{Record, recordsOf}
-use Rattle.meaning.specs.Table.{Table, tableOf}
-use Rattle.meaning.specs.Rounds.{Set, allSafe, setA, setB, setW, maximalMembers, rounds, widthOfRound, full}
+use Rattle.meaning.specs.Records.{recordsOf}
+use Rattle.meaning.specs.Table.{Table, tableOf, stated}
+use Rattle.meaning.specs.Rounds.{Set, allSafe, setA, setB, setW, maximalMembers, rounds, widthOfRound, full, Crowded, Overfull, in-W}
+use Rattle.meaning.specs.Rounds.{in-A, in-B}
 use Rattle.meaning.specs.Written.{winners}
-use Rattle.meaning.specs.Join.{joined, pairs}
-use Rattle.meaning.specs.Answers.{Check, bound, room, tableChecks, stageChecks, solveChecks, pairChecks, partsChecks}
+use Rattle.meaning.specs.Join.{pairs, joinedTable}
+use Rattle.meaning.specs.Checks.{Check, bound, room, tableChecks, stageChecks, solveChecks, pairChecks, partsChecks, Passes, Fails}
 use Rattle.meaning.proofs.Tests.{both, clash, largest-passes, passes-largest}
 use Rattle.meaning.proofs.Rounds.{FirstSet, allSafe-first}
 use Rattle.meaning.proofs.Maximal.{some-winner}
-use Rattle.meaning.proofs.Checks.{Passes, passes-member, passes-at, passes-left, passes-right, Fails, Failure, fails-member, first-failure}
-use Rattle.meaning.proofs.Checks.{FailsWith}
-use Rattle.meaning.proofs.Sound.{sound-good, passes-good, Paired, passes-paired}
+use Rattle.meaning.proofs.Checks.{passes-member, passes-at, passes-left, passes-right, Failure, fails-member, first-failure}
+use Rattle.meaning.specs.Checks.{FailsWith, partsStages, check}
+use Rattle.meaning.specs.Demands.{PartsFull, TableFull}
+use Rattle.meaning.proofs.Sound.{sound-good, passes-good, passes-paired}
 use Rattle.meaning.proofs.Parts.{pairs-first}
 use Rattle.meaning.proofs.JoinUnion.{paired-union}
-
--- "some W, A or B of it has more maximal members than the room N": of the round that begins with W
-pub data Crowded (K : ℕ) (t : Table) (W : Set) (N : ℕ) : Type 0 where
-  in-W : N < length (maximalMembers K (t .controllers) W) → Crowded K t W N
-  in-A : (j : ℕ) → j ≤ t .inputs → N < length (maximalMembers K (t .worlds) (setA K t W j)) → Crowded K t W N
-  in-B : (k : ℕ) → k ≤ t .outputs → N < length (maximalMembers K (t .controllers) (setB K t W k)) → Crowded K t W N
 
 -- the width of a round passes N exactly if the round is crowded
 pub width-crowded : (K : ℕ) (t : Table) (W : Set) (N : ℕ) → (N < widthOfRound K t W) ↔ Crowded K t W N
@@ -58,10 +54,6 @@ width-crowded K t W N = (find (decLt N inW) (decLt N (largest (suc (t .inputs)) 
     pass (in-W w) = omega arith
     pass (in-A j l a) = omega (arith, passes-largest N (t .inputs) inA j l a)
     pass (in-B k l b) = omega (arith, passes-largest N (t .outputs) inB k l b)
-
--- "in a round up to and including the one that shows equality"
-abbrev pub Overfull : ℕ → Table → Set → ℕ → Type 0
-Overfull K t X N = (r : ℕ) × (r ≤ rounds K t X) × Crowded K t (setW K t X r) N
 
 pub full-exactly : (K : ℕ) (t : Table) (X : Set) (N : ℕ)
     → (full K t X N ≡ true) ↔ ((r : ℕ) × (r ≤ rounds K t X) × Crowded K t (setW K t X r) N)
@@ -141,7 +133,7 @@ full-stage which K N t X first output =
 -- solving
 pub solve-full : (bytes : List ℕ) (K N : ℕ) (win con : List ℕ) → bound K .failed ≡ false → room N win con .failed ≡ false
     → Passes (tableChecks 0 bytes)
-    → FailsWith (solveChecks bytes K N win con) Full ↔ Overfull K (tableOf (recordsOf bytes)) (allSafe K (tableOf (recordsOf bytes) .controllers)) N
+    → FailsWith (solveChecks bytes K N win con) Full ↔ TableFull bytes K N
 unfolding solveChecks
 solve-full bytes K N win con b m p =
     let t = tableOf (recordsOf bytes) in
@@ -150,42 +142,24 @@ solve-full bytes K N win con b m p =
     full-given (full-before (bound K ∷ room N win con ∷ tableChecks 0 bytes) (rw (b, m) p) stage)
 
 -- by parts: "FULL applies to each of the three stages in turn, and to that first list of pairs"
-abbrev pub PartsOverfull : List Record → List Record → ℕ → ℕ → Type 0
-PartsOverfull rs ss K N =
-    (Overfull K (tableOf rs) (allSafe K (tableOf rs .controllers)) N ⊎ Overfull K (tableOf ss) (allSafe K (tableOf ss .controllers)) N)
-    ⊎ ((N < length (maximalMembers K (tableOf (joined rs ss) .controllers) (pairs K (tableOf rs) (tableOf ss))))
-    ⊎ Overfull K (tableOf (joined rs ss)) (pairs K (tableOf rs) (tableOf ss)) N)
-
--- the stages' checks, after others that pass
-abbrev pub partsStages : List Record → List Record → ℕ → ℕ → List Check → List Check
-partsStages rs ss K N before =
-    let t = tableOf rs in
-    let u = tableOf ss in
-    let whole = tableOf (joined rs ss) in
+pub full-parts : (one two : List ℕ) → Passes (pairChecks one two) → (K N : ℕ) → FullOnly (partsStages one two K N) (PartsFull one two K N)
+unfolding partsStages
+full-parts one two p K N =
+    let t = stated one in
+    let u = stated two in
+    let whole = joinedTable one two in
+    let pair = passes-paired one two p in
+    let union = paired-union (recordsOf one) (recordsOf two) pair in
     let number = length (maximalMembers K (whole .controllers) (pairs K t u)) in
-    before ++ stageChecks 1 K N t (allSafe K (t .controllers)) ++ stageChecks 2 K N u (allSafe K (u .controllers))
-    ++ (record { failed = ltb N number; refusal = Full; faultAt = 0; table = 0 } ∷ stageChecks 0 K N whole (pairs K t u))
-
-pub full-parts : (rs ss : List Record) → Paired rs ss → (K N : ℕ) (before : List Check) → Passes before
-    → FullOnly (partsStages rs ss K N before) (PartsOverfull rs ss K N)
-full-parts rs ss pair K N before p =
-    let t = tableOf rs in
-    let u = tableOf ss in
-    let whole = tableOf (joined rs ss) in
-    let union = paired-union rs ss pair in
-    let number = length (maximalMembers K (whole .controllers) (pairs K t u)) in
-    let output : 0 < t .outputs = sound-good rs (pair .first) .some-output in
+    let output : 0 < t .outputs = sound-good (recordsOf one) (pair .first) .some-output in
     full-append
-    (full-append (full-before before p (full-stage 1 K N t (allSafe K (t .controllers)) (allSafe-first K t) output))
+    (full-append (full-stage 1 K N t (allSafe K (t .controllers)) (allSafe-first K t) output)
     (full-stage 2 K N u (allSafe K (u .controllers)) (allSafe-first K u) (omega (arith, pair .outputs-same))))
-    (full-append
-    (full-one (record { failed = ltb N number; refusal = Full; faultAt = 0; table = 0 }) refl (ltb-true N number, lt-ltb N number))
+    (full-append (full-one (check Full 0 0 (ltb N number)) refl (ltb-true N number, lt-ltb N number))
     (full-stage 0 K N whole (pairs K t u) (pairs-first t u whole union K output) (omega (arith, union .outputs))))
 
 pub parts-full : (one two : List ℕ) (K N : ℕ) (win con : List ℕ) → bound K .failed ≡ false → room N win con .failed ≡ false
-    → Passes (pairChecks one two)
-    → FailsWith (partsChecks one two K N win con) Full ↔ PartsOverfull (recordsOf one) (recordsOf two) K N
+    → Passes (pairChecks one two) → FailsWith (partsChecks one two K N win con) Full ↔ PartsFull one two K N
 unfolding partsChecks
 parts-full one two K N win con b m p =
-    full-given
-    (full-parts (recordsOf one) (recordsOf two) (passes-paired one two p) K N (bound K ∷ room N win con ∷ pairChecks one two) (rw (b, m) p))
+    full-given (full-before (bound K ∷ room N win con ∷ pairChecks one two) (rw (b, m) p) (full-parts one two p K N))

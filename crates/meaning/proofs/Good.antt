@@ -9,7 +9,7 @@ use lib.Dec.{eqb}
 use borrow.Author.Tests.{eqb-false, ne-eqb, not-false}
 use Rattle.meaning.specs.Lists.{each, some}
 use Rattle.meaning.specs.Table.{Half, Table, onOutput, onInput}
-use Rattle.meaning.specs.Answers.{total, gap}
+use Rattle.meaning.specs.Checks.{total, gap}
 use Rattle.meaning.proofs.Tests.{neither-left, neither-right, each-at, each-of, some-at}
 
 pub record Good (t : Table) : Type 0 where

@@ -12,8 +12,8 @@ use borrow.Author.Tests.{eq-eqb, ne-eqb, le-ltb, not-false}
 use Rattle.meaning.specs.Lists.{some}
 use Rattle.meaning.specs.Records.{Record, bytesOf, blank, at, controller, world, output, input, ofKind}
 use Rattle.meaning.specs.Table.{Half, Table, onOutput, onInput, tableOf}
-use Rattle.meaning.specs.Join.{byKind, renumber, joined}
-use Rattle.meaning.specs.Answers.{wrongLength, noStart, total, gap}
+use Rattle.meaning.specs.Join.{byKind, renumber, joined, home, away}
+use Rattle.meaning.specs.Checks.{wrongLength, noStart, total, gap}
 use Rattle.meaning.proofs.Tests.{each-of, some-at, some-of, below-sum}
 use Rattle.meaning.proofs.Lists.{member-at}
 use Rattle.meaning.proofs.Good.{total-leads, leads-at, leads-of}
@@ -21,7 +21,7 @@ use Rattle.meaning.proofs.Records.{Kind, of-controller, of-world, of-ou
 use Rattle.meaning.proofs.Records.{inside-bytes}
 use Rattle.meaning.proofs.Sound.{Numbered, Sound, Paired}
 use Rattle.meaning.proofs.Union.{HalfUnion, Union, controllers-sum}
-use Rattle.meaning.proofs.Stands.{home, away, controllersOf, worldsOf, homeIn, awayIn, moveUp, Stands, home-few, stands-inside}
+use Rattle.meaning.proofs.Stands.{controllersOf, worldsOf, homeIn, awayIn, moveUp, Stands, home-few, stands-inside}
 use Rattle.meaning.proofs.Stands.{stands-declared, sound-stands, renumber-kind, renumber-from, renumber-letter, renumber-to, stands-first}
 use Rattle.meaning.proofs.Stands.{stands-second}
 use Rattle.meaning.proofs.Climbs.{value, value-range, below-ascends, Climbs, climbs-append, climbs-length, climbs-ofKind, climbs-map}

@@ -3,19 +3,17 @@
 -- past the second's and the second's down.
 use mathlib.Core.Path.{_≡_, refl, sym, ap, _∙_, fun-ext}
 use mathlib.Core.Logic.{_↔_, ⊎-elim}
-use mathlib.Core.Bool.{cond}
 use mathlib.Core.List.{Memᴰ·of-map, Memᴰ·map, List, _++_, map, append-assoc, map-append, map-map, List·Memᴰ, Memᴰ·cast}
 use Prim.Native.Nat.{ℕ, _+_, _-_, _≤_, _<_}
 use native.Mathlib.Nat.{zero-add}
 use native.Mathlib.Omega.{arith}
-use lib.Dec.{ltb}
 use borrow.Author.Tests.{lt-ltb, le-ltb}
 use Rattle.meaning.specs.Records.{Record, controller, world, ofKind}
-use Rattle.meaning.specs.Join.{upward, renumber, joined}
+use Rattle.meaning.specs.Join.{upward, renumber, joined, home, away, across, acrossRecord}
 use Rattle.meaning.proofs.Tests.{below-sum}
 use Rattle.meaning.proofs.Records.{Kind, of-controller, of-world, of-output, of-input, record-same}
 use Rattle.meaning.proofs.Sound.{Sound, Paired, paired-swapped}
-use Rattle.meaning.proofs.Stands.{home, away, controllersOf, worldsOf, moveUp, Stands, sound-stands, renumber-upward, renumber-kind}
+use Rattle.meaning.proofs.Stands.{controllersOf, worldsOf, moveUp, Stands, sound-stands, renumber-upward, renumber-kind}
 use Rattle.meaning.proofs.Stands.{renumber-from, renumber-letter, renumber-to, renumber-twice}
 use Rattle.meaning.proofs.JoinKinds.{byKind-same, beside-kind, joined-kind, joined-count, joined-cases, joined-first, joined-second}
 
@@ -43,10 +41,6 @@ pub joined-grouped : (rs ss ts : List Record) → joined (joined rs ss) ts ≡ j
 unfolding joined
 joined-grouped rs ss ts = byKind-same (joined rs ss ++ map (moveUp (joined rs ss)) ts) (rs ++ map (moveUp rs) (joined ss ts)) (kind-grouped rs ss ts)
 
--- swapped: state p of a side stands at `across n m p`, where the first table has n states on that side and the second m
-unfoldable pub across : ℕ → ℕ → ℕ → ℕ
-across n m p = cond (ltb p n) (m + p) (p - n)
-
 across-first : (n m p : ℕ) → p < n → across n m p ≡ m + p
 unfolding across
 across-first n m p h = rw (lt-ltb p n h) refl
@@ -61,17 +55,6 @@ across-twice n m =
     below-sum (λ p. across m n (across n m p) ≡ p) n m
     (λ p l. ap (across m n) (across-first n m p l) ∙ across-second m n p)
     (λ p l. ap (across m n) (across-second n m p) ∙ across-first m n p l)
-
--- a record with its states renumbered across, where the first table has n controllers and m worlds and the second n′ and m′; its kind, its letter
--- and the byte 3 of a state's record stay
-unfoldable pub acrossRecord : ℕ → ℕ → ℕ → ℕ → Record → Record
-acrossRecord n m n′ m′ r =
-    record {
-      kind = r .kind;
-      from = across (home n m (r .kind)) (home n′ m′ (r .kind)) (r .from);
-      letter = r .letter;
-      to = across (away n m (r .kind)) (away n′ m′ (r .kind)) (r .to);
-    }
 
 -- the first table's records move up
 record-across-first : (n m n′ m′ : ℕ) (r : Record) → 0 < n → 0 < m → Stands n m r → acrossRecord n m n′ m′ r ≡ renumber n′ m′ r

@@ -4,21 +4,20 @@ use mathlib.Core.Path.{_≡_, refl, sym, ap, _∙_, subst, subst⁻¹}
 use mathlib.Core.Logic.{⊎-elim}
 use mathlib.Core.Bool.{false}
 use mathlib.Core.List.{List, _++_, map, List·Memᴰ, List·Memᴰ·append-cases, Memᴰ·append-left, Memᴰ·append-right, Memᴰ·map, Memᴰ·of-map, Memᴰ·cast}
-use Prim.Native.Nat.{ℕ, _+_, _/_, _%_, _<_, max}
+use Prim.Native.Nat.{ℕ, _+_, _<_, max}
 use native.Mathlib.Omega.{arith}
 use lib.ListN.{length, List·getD-append}
 use lib.Seq.{getD-append-add}
-use lib.Dec.{eqb}
 use Rattle.meaning.specs.Records.{Record, blank, at, controller, world, output, input, ofKind}
-use Rattle.meaning.specs.Table.{Half, letters, markOf, startOf, edgeOf, tableOf}
-use Rattle.meaning.specs.Join.{upward, renumber, joined}
+use Rattle.meaning.specs.Table.{Half, letters, markIn, startIn, markOf, startsOf, edgeOf, tableOf}
+use Rattle.meaning.specs.Join.{upward, renumber, joined, home, away}
 use Rattle.meaning.proofs.Tests.{refuted, same-test}
-use Rattle.meaning.proofs.Lists.{map-at}
+use Rattle.meaning.proofs.Lists.{map-at, member-at}
 use Rattle.meaning.proofs.Records.{Kind, of-controller, of-world, of-output, of-input, record-same, edgeRecord, edge-member, member-edge}
-use Rattle.meaning.proofs.Records.{letters-above, letters-least}
+use Rattle.meaning.proofs.Records.{letters-above, letters-least, ofKind-kind}
 use Rattle.meaning.proofs.Sound.{Paired}
 use Rattle.meaning.proofs.Union.{HalfUnion, Union}
-use Rattle.meaning.proofs.Stands.{home, away, controllersOf, worldsOf, homeIn, awayIn, moveUp, Standing, sound-stands, renumber-upward}
+use Rattle.meaning.proofs.Stands.{controllersOf, worldsOf, homeIn, awayIn, moveUp, Standing, sound-stands, renumber-upward}
 use Rattle.meaning.proofs.Stands.{renumber-kind, renumber-from, renumber-letter, renumber-to}
 use Rattle.meaning.proofs.JoinKinds.{joined-kind, joined-count, joined-cases, joined-first, joined-second}
 
@@ -43,6 +42,22 @@ module _ (rs ss : List Record) where
   joined-at-second kind k i h =
       rw (joined-kind rs ss kind k)
       (getD-append-add (ofKind kind rs) (map (moveUp rs) (ofKind kind ss)) i blank ∙ map-at (moveUp rs) (ofKind kind ss) i blank blank h)
+
+  -- what a join keeps of a state's record: all but its number, and so whatever is read from the rest of it
+  joined-keeps : {A : Type 0} (read : Record → A)
+      → ((p : ℕ) (r : Record) → read (record { kind = r .kind; from = p; letter = r .letter; to = r .to }) ≡ read r)
+      → (kind : ℕ) → Kind kind → ((n m : ℕ) → away n m kind ≡ 0) → (i : ℕ) → i < length (ofKind kind ss)
+      → read (at (ofKind kind (joined rs ss)) (length (ofKind kind rs) + i)) ≡ read (at (ofKind kind ss) i)
+  joined-keeps read unnumbered kind k leads-nowhere i h =
+      let r = at (ofKind kind ss) i in
+      let of-kind = ofKind-kind kind ss r (member-at (ofKind kind ss) i blank h) in
+      let still : awayIn rs (r .kind) ≡ 0 = ap (awayIn rs) of-kind ∙ leads-nowhere (controllersOf rs) (worldsOf rs) in
+      let moved : Record = record { kind = r .kind; from = moveUp rs r .from; letter = r .letter; to = r .to } in
+      ap read
+      (joined-at-second kind k i h
+      ∙ record-same (moveUp rs r) moved (renumber-kind (controllersOf rs) (worldsOf rs) r) refl
+      (renumber-letter (controllersOf rs) (worldsOf rs) r) (omega (arith, renumber-to (controllersOf rs) (worldsOf rs) r, still)))
+      ∙ unnumbered (moveUp rs r .from) r
 
   pub joined-letters : (kind : ℕ) → Kind kind → letters kind (joined rs ss) ≡ max (letters kind rs) (letters kind ss)
   joined-letters kind k =
@@ -121,17 +136,15 @@ half source target kind letter rs =
     record { sources = length (ofKind source rs); targets = length (ofKind target rs); edge = edgeOf kind rs letter; mark = markOf target rs }
 
 half-union : (rs ss : List Record) → Standing rs → (source target kind : ℕ) → Kind source → Kind target → Kind kind
-    → homeIn rs kind ≡ length (ofKind source rs) → awayIn rs kind ≡ length (ofKind target rs) → 0 < length (ofKind target rs)
+    → ((n m : ℕ) → away n m target ≡ 0) → homeIn rs kind ≡ length (ofKind source rs) → awayIn rs kind ≡ length (ofKind target rs) → 0 < length (ofKind target rs)
     → (letter : ℕ) → HalfUnion (half source target kind letter rs) (half source target kind letter ss) (half source target kind letter (joined rs ss))
-unfolding markOf
-half-union rs ss stands source target kind s t k from to some letter =
+unfolding markOf markIn
+half-union rs ss stands source target kind s t k still from to some letter =
     record {
       sources = joined-count rs ss source s;
       targets = joined-count rs ss target t;
-      mark-first = λ q h. ap {B = ℕ} (λ (r : Record). r .letter % 2) (joined-at-first rs ss target t q h);
-      mark-second = λ q h.
-          ap {B = ℕ} (λ (r : Record). r .letter % 2) (joined-at-second rs ss target t q h)
-          ∙ ap (λ (l : ℕ). l % 2) (renumber-letter (controllersOf rs) (worldsOf rs) (at (ofKind target ss) q));
+      mark-first = λ q h. ap markIn (joined-at-first rs ss target t q h);
+      mark-second = λ q h. joined-keeps rs ss markIn (λ p r. refl) target t still q h;
       edge-first = λ p q hp hq. edge-first rs ss stands kind k letter p q (omega arith);
       edge-second = λ p q hp hq. rw (← from, ← to) (edge-second rs ss stands kind k letter p q);
       edge-down = λ p q hp hq. rw (← to) (edge-down rs ss stands kind k letter p q (omega arith) (omega arith));
@@ -140,7 +153,7 @@ half-union rs ss stands source target kind s t k from to some letter =
 
 -- the joined table is the two side by side
 pub paired-union : (rs ss : List Record) → Paired rs ss → Union (tableOf rs) (tableOf ss) (tableOf (joined rs ss))
-unfolding tableOf startOf
+unfolding tableOf startsOf startIn
 paired-union rs ss pair =
     let stands = sound-stands rs (pair .first) in
     let outputs = pair .outputs-same in
@@ -150,10 +163,8 @@ paired-union rs ss pair =
       inputs = omega (arith, joined-letters rs ss input of-input);
       outputs-same = sym outputs;
       inputs-same = sym inputs;
-      starts-first = λ p h. ap (λ (r : Record). eqb (r .letter / 2) 1) (joined-at-first rs ss controller of-controller p h);
-      starts-second = λ p h.
-          ap (λ (r : Record). eqb (r .letter / 2) 1) (joined-at-second rs ss controller of-controller p h)
-          ∙ ap (λ (l : ℕ). eqb (l / 2) 1) (renumber-letter (controllersOf rs) (worldsOf rs) (at (ofKind controller ss) p));
-      on-output = half-union rs ss stands controller world output of-controller of-world of-output refl refl (pair .first .worlds .some-state);
-      on-input = half-union rs ss stands world controller input of-world of-controller of-input refl refl (pair .first .controllers .some-state);
+      starts-first = λ p h. ap startIn (joined-at-first rs ss controller of-controller p h);
+      starts-second = λ p h. joined-keeps rs ss startIn (λ q r. refl) controller of-controller (λ n m. refl) p h;
+      on-output = half-union rs ss stands controller world output of-controller of-world of-output (λ n m. refl) refl refl (pair .first .worlds .some-state);
+      on-input = half-union rs ss stands world controller input of-world of-controller of-input (λ n m. refl) refl refl (pair .first .controllers .some-state);
     }

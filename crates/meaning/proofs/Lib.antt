@@ -41,7 +41,8 @@ pub mod JoinUnion
 pub mod JoinGood
 pub mod JoinOrder
 pub mod Join
--- the calls: what a stage's answer means, FULL, and calls that agree
+-- the calls: what a caller is told, what a stage's answer means, FULL, and calls that agree
+pub mod Told
 pub mod Stages
 pub mod Full
 pub mod NotFull

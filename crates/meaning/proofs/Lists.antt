@@ -97,6 +97,12 @@ module _ {A : Type 0} where
   every-of f (x ∷ xs) p =
       both (f x) (every f xs) (p x (List·Memᴰ·head refl)) (every-of f xs (λ y m. p y (List·Memᴰ·tail m)))
 
+  -- and of the default where a place is past them
+  pub every-default : (f : A → Bool) (xs : List A) (i : ℕ) (d : A) → f d ≡ true → every f xs ≡ true → f (getD xs i d) ≡ true
+  every-default f [] i d h p = h
+  every-default f (x ∷ xs) zero d h p = both-left (f x) (every f xs) p
+  every-default f (x ∷ xs) (suc i) d h p = every-default f xs i d h (both-right (f x) (every f xs) p)
+
   pub any-at : (f : A → Bool) (xs : List A) → any f xs ≡ true → (x : A) × List·Memᴰ x xs × (f x ≡ true)
   any-at f [] p = absurd (true≢false (sym p))
   any-at f (x ∷ xs) p = go (either-cases (f x) (any f xs) p) (any-at f xs)

@@ -15,6 +15,7 @@ use Rattle.meaning.specs.Table.{Table}
 use Rattle.meaning.specs.Counting.{Position}
 use Rattle.meaning.specs.Rounds.{Set, winning}
 use Rattle.meaning.specs.Written.{winners, covering, afterRound, outputOf, startState, stateOrder, Row, rowsOfState, controllerRows}
+use Rattle.meaning.specs.Written.{rowsFrom}
 use Rattle.meaning.specs.Play.{row, rowOutput, rowNext}
 use Rattle.meaning.proofs.Tests.{both, both-left, both-right}
 use Rattle.meaning.proofs.Lists.{tab-length, tab-member, member-tab, keep-member, keep-of, keep-all, found-or-default, found, flatMap-member}
@@ -88,18 +89,18 @@ pub record Right (K : ℕ) (t : Table) (X : Set) (r : Row) : Type 0 where
 
 -- the states in the order of their rows
 abbrev pub states : ℕ → Table → Set → List ℕ
-states K t X = stateOrder (startState t (winners K t X)) (length (winners K t X))
+states K t X = stateOrder (startState K t (winners K t X)) (length (winners K t X))
 
 module _ (K : ℕ) (t : Table) (X : Set) where
   pub row-member : (s i : ℕ) → s < length (winners K t X) → i < t .inputs → List·Memᴰ (rowAt K t X s i) (controllerRows K t X)
-  unfolding controllerRows rowsOfState
+  unfolding controllerRows rowsFrom rowsOfState
   row-member s i h l =
       flatMap-member (rowsOfState K t (winning K t X) (winners K t X)) (states K t X) s (rowAt K t X s i) (order-member _ _ s h)
       (tab-member (t .inputs) (rowAt K t X s) i l)
 
   module _ (covered : StartCovered K t X) where
     pub member-right : (r : Row) → List·Memᴰ r (controllerRows K t X) → Right K t X r
-    unfolding controllerRows rowsOfState
+    unfolding controllerRows rowsFrom rowsOfState
     member-right r m =
         let s = member-flatMap (rowsOfState K t (winning K t X) (winners K t X)) (states K t X) r m in
         let i = member-tab (t .inputs) (rowAt K t X (s .0)) r (s .2) in

@@ -250,4 +250,4 @@ some-winner K t X first output =
 
 -- "the first winner that the start position is below" is there
 abbrev pub StartCovered : ℕ → Table → Set → Type 0
-StartCovered K t X = startState t (winners K t X) < length (winners K t X)
+StartCovered K t X = startState K t (winners K t X) < length (winners K t X)

@@ -13,14 +13,11 @@ use Rattle.meaning.specs.Counting.{Position, count}
 use Rattle.meaning.specs.Rounds.{Set, positions, maximal, maximalMembers, winning}
 use Rattle.meaning.specs.Written.{winners, positionBytes, winnersBytes, Row, rowBytes}
 use Rattle.meaning.specs.Play.{rowsIn}
+use Rattle.meaning.specs.Calls.{winnerIn}
 use Rattle.meaning.proofs.Lists.{tab-at, member-at, keep-member}
 use Rattle.meaning.proofs.Positions.{allSafe-length, positions-safe}
 use Rattle.meaning.proofs.Rows.{rows-back}
 use Rattle.meaning.proofs.Buffers.{position-bytes, rows-bytes}
-
--- "8 bytes a position, byte q holding count + 1": winner number i of a table with n controller-turn states
-abbrev pub winnerIn : ℕ → List ℕ → ℕ → Position
-winnerIn n bytes i = take n (drop (i * 8) bytes)
 
 -- each winner is a position of the table
 pub winner-length : (K : ℕ) (t : Table) (X : Set) (i : ℕ) → i < length (winners K t X) → length (getD (winners K t X) i []) ≡ t .controllers

@@ -4,84 +4,81 @@ use mathlib.Core.Path.{_≡_, ap, _∙_}
 use mathlib.Core.Logic.{Iff·symm, _↔_}
 use mathlib.Core.Bool.{true, cond}
 use mathlib.Core.List.{List}
-use Prim.Native.Nat.{ℕ, _/_, _≤_, _<_}
+use Prim.Native.Nat.{ℕ, _<_}
 use native.Mathlib.Decide.{decLt}
 use native.Mathlib.Omega.{arith}
 use lib.ListN.{length, List·getD-eq-default}
-use lib.Dec.{eqb}
 use Rattle.meaning.specs.Records.{Record, blank, at, controller, ofKind}
-use Rattle.meaning.specs.Table.{Table, startOf, tableOf}
-use Rattle.meaning.specs.Counting.{count, startPosition}
+use Rattle.meaning.specs.Table.{Table, startIn, startsOf, tableOf}
+use Rattle.meaning.specs.Counting.{count, plus, startPosition}
 use Rattle.meaning.specs.Rounds.{Set, winning}
 use Rattle.meaning.specs.Written.{startState}
-use Rattle.meaning.specs.Play.{Strategy, Legal, Run, Keeps, Wins}
+use Rattle.meaning.specs.Play.{Strategy, Legal, Keeps, Wins, Realizes, Realizable}
 use Rattle.meaning.specs.Play.Run.{round}
 use Rattle.meaning.proofs.Tests.{clash}
 use Rattle.meaning.proofs.Lists.{tab-length, tab-at}
-use Rattle.meaning.proofs.Steps.{run-within, run-over-edge}
+use Rattle.meaning.proofs.Steps.{run-within, plus-exact, run-over-edge}
 use Rattle.meaning.proofs.Rounds.{FirstSet}
 use Rattle.meaning.proofs.Maximal.{winning-covered, StartCovered}
 use Rattle.meaning.proofs.Good.{Good}
 
--- "some way of choosing outputs from the inputs so far keeps every run of the table to at most K entries into marked states, for every finite
--- sequence of inputs": this one does
-pub record Realizes (K : ℕ) (t : Table) (σ : Strategy) : Type 0 where
-  pub legal : Legal t σ
-  pub keeps : (p : ℕ) → t .starts p ≡ true → {inputs : List ℕ} {q e : ℕ} → Run t σ p inputs q e → e ≤ K
-
 -- start states are states
 pub start-declared : (rs : List Record) (p : ℕ) → tableOf rs .starts p ≡ true → p < tableOf rs .controllers
-unfolding tableOf startOf
+unfolding tableOf startsOf startIn
 start-declared rs p s = go (decLt p (length (ofKind controller rs)))
   where
     go : Dec (p < length (ofKind controller rs)) → p < length (ofKind controller rs)
     go (yes l) = l
     go (no l) =
         let none : at (ofKind controller rs) p ≡ blank = List·getD-eq-default (ofKind controller rs) blank (omega arith) in
-        absurd (clash (eqb (at (ofKind controller rs) p .letter / 2) 1) s (ap (λ (r : Record). eqb (r .letter / 2) 1) none))
+        absurd (clash (startIn (at (ofKind controller rs) p)) s (ap startIn none))
 
--- the start position: its states, and a count of one exactly at the start states
-pub start-length : (t : Table) → length (startPosition t) ≡ t .controllers
+-- the start position: its states, and a count of 0, one higher, exactly at the start states
+pub start-length : (K : ℕ) (t : Table) → length (startPosition K t) ≡ t .controllers
 unfolding startPosition
-start-length t = tab-length (t .controllers) (λ q. cond (t .starts q) 1 0)
+start-length K t = tab-length (t .controllers) (λ q. cond (t .starts q) (plus K 0 1) 0)
 
-pub start-at : (t : Table) (p : ℕ) → p < t .controllers → count (startPosition t) p ≡ cond (t .starts p) 1 0
+start-at : (K : ℕ) (t : Table) (p : ℕ) → p < t .controllers → count (startPosition K t) p ≡ cond (t .starts p) (plus K 0 1) 0
 unfolding startPosition
-start-at t p l = tab-at (t .controllers) (λ q. cond (t .starts q) 1 0) p 0 l
+start-at K t p l = tab-at (t .controllers) (λ q. cond (t .starts q) (plus K 0 1) 0) p 0 l
 
-pub start-count : (rs : List Record) (p : ℕ) → tableOf rs .starts p ≡ true → count (startPosition (tableOf rs)) p ≡ 1
-start-count rs p s = rw s at (start-at (tableOf rs) p (start-declared rs p s))
+start-plus : (K : ℕ) → plus K 0 1 ≡ 1
+start-plus K = plus-exact K 0 1 (omega arith) (omega arith)
 
-pub count-start : (t : Table) (p : ℕ) → 0 < count (startPosition t) p → (t .starts p ≡ true) × (count (startPosition t) p ≡ 1)
-count-start t p c =
-    let e = start-at t p (rw (start-length t) at (run-within (startPosition t) p c)) in
-    let r = run-over-edge (t .starts p) 1 (omega arith) in
-    (r .0, e ∙ r .1)
+pub start-count : (K : ℕ) (rs : List Record) (p : ℕ) → tableOf rs .starts p ≡ true → count (startPosition K (tableOf rs)) p ≡ 1
+start-count K rs p s = (rw s at (start-at K (tableOf rs) p (start-declared rs p s))) ∙ start-plus K
+
+pub count-start : (K : ℕ) (t : Table) (p : ℕ) → 0 < count (startPosition K t) p
+    → (t .starts p ≡ true) × (count (startPosition K t) p ≡ 1)
+count-start K t p c =
+    let e = start-at K t p (rw (start-length K t) at (run-within (startPosition K t) p c)) in
+    let r = run-over-edge (t .starts p) (plus K 0 1) (omega arith) in
+    (r .0, e ∙ r .1 ∙ start-plus K)
 
 -- it is covered exactly if it is in the winning set
-pub start-covered : (K : ℕ) (t : Table) (X : Set) → FirstSet K t X → StartCovered K t X ↔ (winning K t X (startPosition t) ≡ true)
+pub start-covered : (K : ℕ) (t : Table) (X : Set) → FirstSet K t X → StartCovered K t X ↔ (winning K t X (startPosition K t) ≡ true)
 unfolding startState
-start-covered K t X first = Iff·symm (winning-covered K t X first (startPosition t) (start-length t))
+start-covered K t X first = Iff·symm (winning-covered K t X first (startPosition K t) (start-length K t))
 
-pub keeps-realizes : (K : ℕ) (rs : List Record) (σ : Strategy) → Legal (tableOf rs) σ → Keeps K (tableOf rs) (startPosition (tableOf rs)) σ
+pub keeps-realizes : (K : ℕ) (rs : List Record) (σ : Strategy) → Legal (tableOf rs) σ → Keeps K (tableOf rs) (startPosition K (tableOf rs)) σ
     → Realizes K (tableOf rs) σ
 keeps-realizes K rs σ l k =
-    record { legal = l; keeps = λ p s run. let one = start-count rs p s in omega (arith, k .whole p (omega arith) run) }
+    record { legal = l; keeps = λ p s run. let one = start-count K rs p s in omega (arith, k .whole p (omega arith) run) }
 
 pub realizes-keeps : (K : ℕ) (rs : List Record) → Good (tableOf rs) → (σ : Strategy) → Realizes K (tableOf rs) σ
-    → Keeps K (tableOf rs) (startPosition (tableOf rs)) σ
+    → Keeps K (tableOf rs) (startPosition K (tableOf rs)) σ
 realizes-keeps K rs g σ r =
     let t = tableOf rs in
     record {
-      whole = λ p c run. let one = count-start t p c in omega (arith, one .1, r .keeps p (one .0) run);
+      whole = λ p c run. let one = count-start K t p c in omega (arith, one .1, r .keeps p (one .0) run);
       half = λ p c {inputs} {q} run w out.
-          let one = count-start t p c in
+          let one = count-start K t p c in
           let on = g .input-leads 0 w (g .some-input) (g .output-ends (σ inputs) q w out .2) in
           omega (arith, one .1, r .keeps p (one .0) (round run w 0 (on .0) out (on .1)));
     }
 
 pub wins-realizable : (K : ℕ) (rs : List Record) → Good (tableOf rs)
-    → Wins K (tableOf rs) (startPosition (tableOf rs)) ↔ ((σ : Strategy) × Realizes K (tableOf rs) σ)
+    → Wins K (tableOf rs) (startPosition K (tableOf rs)) ↔ Realizable K (tableOf rs)
 wins-realizable K rs g = (
   λ w. (w .strategy, keeps-realizes K rs (w .strategy) (w .legal) (w .keeps)),
   λ r. record { strategy = r .0; legal = r .1 .legal; keeps = realizes-keeps K rs g (r .0) (r .1) },

@@ -3,18 +3,18 @@
 -- on every input, so it and the position half way are safe, and the next state's winner is over the position after the round.
 use mathlib.Core.Path.{_≡_, refl, sym, ap, _∙_}
 use mathlib.Core.Logic.{⊎-elim}
-use mathlib.Core.Bool.{Bool, true}
+use mathlib.Core.Bool.{true}
 use mathlib.Core.List.{List, [], _∷_, flatMap}
 use Prim.Native.Nat.{ℕ, _*_, _<_}
 use native.Mathlib.Nat.{le-trans}
 use native.Mathlib.Omega.{arith}
 use lib.ListN.{length, getD}
-use Rattle.meaning.specs.Lists.{each}
 use Rattle.meaning.specs.Records.{recordsOf}
 use Rattle.meaning.specs.Table.{Table, onOutput, onInput}
 use Rattle.meaning.specs.Counting.{Position, count, forward, safe, below}
 use Rattle.meaning.specs.Rounds.{Set, winning}
 use Rattle.meaning.specs.Written.{winners, covering, afterRound, outputOf, startState, Row, rowBytes, rowsOfState, controllerRows}
+use Rattle.meaning.specs.Written.{leadsBack, rowsFrom, stateOrder}
 use Rattle.meaning.specs.Play.{Legal, Keeps, rowsIn, rowOutput, stateAfter, follow}
 use Rattle.meaning.proofs.Tests.{each-at, each-of, first-holds, first-found}
 use Rattle.meaning.proofs.Lists.{tab-length, member-at, place-holds, flatMap-length}
@@ -24,7 +24,7 @@ use Rattle.meaning.proofs.Rounds.{FirstSet, setA-leads, setB-leads, win
 use Rattle.meaning.proofs.Maximal.{member-in, winning-covered, StartCovered}
 use Rattle.meaning.proofs.Good.{Good}
 use Rattle.meaning.proofs.Winning.{Guards, guards-keep}
-use Rattle.meaning.proofs.Lookups.{order-length, winnerAt, outputAt, nextAt, rowAt, states, output-found, next-found, some-output-found}
+use Rattle.meaning.proofs.Lookups.{order-length, winnerAt, outputAt, nextAt, output-found, next-found, some-output-found}
 
 -- rows come back from their bytes
 pub rows-back : (rows : List Row) → rowsIn (rowBytes rows) ≡ rows
@@ -33,20 +33,21 @@ rows-back [] = refl
 rows-back (r ∷ rows) = ap {B = List Row} (λ rest. r ∷ rest) (rows-back rows)
 
 -- "one for each state and input": their number, where the start state is one of the winners
-pub rows-number : (K : ℕ) (t : Table) (X : Set) → StartCovered K t X → length (controllerRows K t X) ≡ length (winners K t X) * t .inputs
-unfolding controllerRows rowsOfState
-rows-number K t X h =
-    flatMap-length (rowsOfState K t (winning K t X) (winners K t X)) (t .inputs) (states K t X) (λ s. tab-length (t .inputs) (rowAt K t X s))
-    ∙ ap (λ n. n * t .inputs) (order-length (startState t (winners K t X)) (length (winners K t X)) h)
+pub rows-from-number : (K : ℕ) (t : Table) (won : Set) (ws : List Position) → startState K t ws < length ws
+    → length (rowsFrom K t won ws) ≡ length ws * t .inputs
+unfolding rowsFrom rowsOfState
+rows-from-number K t won ws h =
+    flatMap-length (rowsOfState K t won ws) (t .inputs) (stateOrder (startState K t ws) (length ws)) (λ s. tab-length (t .inputs) _)
+    ∙ ap (λ n. n * t .inputs) (order-length (startState K t ws) (length ws) h)
 
--- from the output o every input leads back into the winning set
-abbrev pub leadsBack : ℕ → Table → Set → Position → ℕ → Bool
-leadsBack K t X F o = each (t .inputs) (λ i. winning K t X (afterRound K t o i F))
+pub rows-number : (K : ℕ) (t : Table) (X : Set) → StartCovered K t X → length (controllerRows K t X) ≡ length (winners K t X) * t .inputs
+unfolding controllerRows
+rows-number K t X h = rows-from-number K t (winning K t X) (winners K t X) h
 
 module _ (K : ℕ) (t : Table) (X : Set) (good : Good t) (first : FirstSet K t X) where
   -- in a winning position some output leads back, so the smallest is a letter, and it leads back
-  pub some-leads-back : (F : Position) → winning K t X F ≡ true → (o : ℕ) × (o < t .outputs) × (leadsBack K t X F o ≡ true)
-  unfolding afterRound
+  pub some-leads-back : (F : Position) → winning K t X F ≡ true → (o : ℕ) × (o < t .outputs) × (leadsBack K t (winning K t X) F o ≡ true)
+  unfolding leadsBack afterRound
   some-leads-back F won =
       let W = winning K t X in
       let o = setB-leads K t W (t .outputs) F (sym (winning-fixed K t X first (good .some-output) F) ∙ won) in
@@ -58,14 +59,14 @@ module _ (K : ℕ) (t : Table) (X : Set) (good : Good t) (first : FirstSet K t X
   output-letter F won =
       let o = some-leads-back F won in
       let h : o .0 < t .outputs = o .1 in
-      omega (arith, first-found (t .outputs) (leadsBack K t X F) (o .0) h (o .2))
+      omega (arith, first-found (t .outputs) (leadsBack K t (winning K t X) F) (o .0) h (o .2))
 
   pub output-wins : (F : Position) → winning K t X F ≡ true → (i : ℕ) → i < t .inputs
       → winning K t X (afterRound K t (outputOf K t (winning K t X) F) i F) ≡ true
-  unfolding outputOf
+  unfolding outputOf leadsBack
   output-wins F won =
       each-at (t .inputs) (λ i. winning K t X (afterRound K t (outputOf K t (winning K t X) F) i F))
-      (first-holds (t .outputs) (leadsBack K t X F) (output-letter F won))
+      (first-holds (t .outputs) (leadsBack K t (winning K t X) F) (output-letter F won))
 
   -- a winning position is safe
   pub won-safe : (F : Position) → winning K t X F ≡ true → safe K F ≡ true

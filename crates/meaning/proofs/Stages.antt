@@ -2,7 +2,7 @@
 -- fails the table is good and the rounds come from that set to exactly the positions that win. The winners are the maximal ones of those, so the
 -- verdict, the winning list and the controller mean what they should.
 use mathlib.Core.Path.{_≡_, refl, sym, ap, _∙_}
-use mathlib.Core.Logic.{_↔_, Iff·symm, Iff·trans}
+use mathlib.Core.Logic.{_↔_, Iff·symm, Iff·trans, ⊎-elim}
 use mathlib.Core.Bool.{true}
 use mathlib.Core.List.{List, []}
 use Prim.Native.Nat.{ℕ, _*_, _≤_, _<_}
@@ -11,25 +11,28 @@ use lib.ListN.{length, getD, take}
 use borrow.Author.Tests.{lt-ltb}
 use Rattle.meaning.specs.Lists.{written}
 use Rattle.meaning.specs.Records.{Record, recordsOf, controller}
-use Rattle.meaning.specs.Table.{tableOf}
+use Rattle.meaning.specs.Table.{tableOf, Table}
 use Rattle.meaning.specs.Counting.{Position, below, startPosition}
-use Rattle.meaning.specs.Rounds.{Set, allSafe, winning}
+use Rattle.meaning.specs.Rounds.{Set, allSafe, winning, SmallestRepeat}
 use Rattle.meaning.specs.Written.{winners, winnersBytes, covering, startState, rowBytes, controllerRows}
 use Rattle.meaning.specs.Join.{joined, pairs}
-use Rattle.meaning.specs.Answers.{codeOf, startOf, Check, Solved, solvedFrom, solveChecks, partsChecks}
-use Rattle.meaning.specs.Play.{Strategy, Wins, rowsIn, follow}
+use Rattle.meaning.specs.Answers.{codeOf, Solved, solvedFrom, answered, unsolved}
+use Rattle.meaning.specs.Checks.{Check, solveChecks, partsChecks, Passes}
+use Rattle.meaning.specs.Play.{Wins, rowsIn, follow, Realizes, Realizable}
 use Rattle.meaning.proofs.Lists.{place-holds, place-found}
-use Rattle.meaning.proofs.Rounds.{FirstSet, allSafe-first}
+use Rattle.meaning.proofs.Rounds.{FirstSet, allSafe-first, rounds-settled, rounds-smallest, rounds-bound}
 use Rattle.meaning.proofs.Maximal.{winning-covered, StartCovered}
 use Rattle.meaning.proofs.Good.{Good}
 use Rattle.meaning.proofs.Winning.{keeps-down, winning-wins}
-use Rattle.meaning.proofs.Realizes.{Realizes, start-length, start-covered, keeps-realizes, wins-realizable}
+use Rattle.meaning.proofs.Realizes.{start-length, start-covered, keeps-realizes, wins-realizable}
 use Rattle.meaning.proofs.Rows.{rows-number, rows-legal, rows-keep}
-use Rattle.meaning.proofs.Checks.{Passes}
-use Rattle.meaning.proofs.Codes.{code-realizable, code-unrealizable}
+use Rattle.meaning.proofs.Checks.{first-failure}
+use Rattle.meaning.proofs.Codes.{code-refused, code-realizable, code-unrealizable}
 use Rattle.meaning.proofs.Answers.{verdictOf, Answered, solve-passes, parts-passes}
 use Rattle.meaning.proofs.Sound.{states-top, Sound, passes-sound, sound-good, Paired, passes-paired}
-use Rattle.meaning.proofs.Readings.{winnerIn, winner-read, rows-read}
+use Rattle.meaning.proofs.Readings.{winner-read, rows-read}
+use Rattle.meaning.specs.Calls.{winnerIn, Unrefused, code, Covers, controllerOf}
+use Rattle.meaning.specs.Demands.{Refuses, Solves}
 use Rattle.meaning.proofs.Parts.{pairs-first, pairs-winning}
 use Rattle.meaning.proofs.JoinUnion.{paired-union}
 use Rattle.meaning.proofs.JoinGood.{joined-sound}
@@ -96,74 +99,116 @@ module _ (K : ℕ) (rs : List Record) (X : Set) (stage : Stage K rs X) where
 
   -- the start position is covered exactly if some strategy realizes the table
   pub covered-realizable : StartCovered K (tableOf rs) X
-      ↔ ((σ : Strategy) × Realizes K (tableOf rs) σ)
+      ↔ Realizable K (tableOf rs)
   covered-realizable =
       let t = tableOf rs in
       Iff·trans (start-covered K t X (stage .first))
-      (Iff·trans (stage .exact (startPosition t) (start-length t)) (wins-realizable K rs (stage .good)))
+      (Iff·trans (stage .exact (startPosition K t) (start-length K t)) (wins-realizable K rs (stage .good)))
 
   -- and then the rows, followed from the start state, are one
   pub rows-realize : StartCovered K (tableOf rs) X
-      → Realizes K (tableOf rs) (follow (controllerRows K (tableOf rs) X) (startState (tableOf rs) (winners K (tableOf rs) X)))
+      → Realizes K (tableOf rs) (follow (controllerRows K (tableOf rs) X) (startState K (tableOf rs) (winners K (tableOf rs) X)))
   unfolding startState covering
   rows-realize h =
       let t = tableOf rs in
       let ws = winners K t X in
-      let s = startState t ws in
+      let s = startState K t ws in
       let σ = follow (controllerRows K t X) s in
       keeps-realizes K rs σ (rows-legal K t X (stage .good) (stage .first) h s)
-      (keeps-down K t (startPosition t) (getD ws s []) σ (place-holds (below (startPosition t)) ws [] h)
+      (keeps-down K t (startPosition K t) (getD ws s []) σ (place-holds (below (startPosition K t)) ws [] h)
       (rows-keep K t X (stage .good) (stage .first) h s h))
 
   -- also as they are read back from the bytes written
   pub written-realize : (con : List ℕ) → StartCovered K (tableOf rs) X
       → Realizes K (tableOf rs)
       (follow (rowsIn (take (length (winners K (tableOf rs) X) * tableOf rs .inputs * 4) (written (rowBytes (controllerRows K (tableOf rs) X)) con)))
-      (startState (tableOf rs) (winners K (tableOf rs) X)))
+      (startState K (tableOf rs) (winners K (tableOf rs) X)))
   written-realize con h =
       rw (← rows-number K (tableOf rs) X h, rows-read (controllerRows K (tableOf rs) X) con) (rows-realize h)
 
--- So of a call whose checks lead to such a stage
+-- Demand 1 of a call that solves
+pub stage-refuses : {cs : List Check} {K : ℕ} {t : Table} {X : Set} {win con : List ℕ} {s : Solved} → Answered cs K t X win con s
+    → Refuses cs (s .answer) ((s .winnersAfter ≡ win) × (s .controllerAfter ≡ con))
+unfolding unsolved
+stage-refuses told =
+    record {
+      in-order = λ r. Iff·trans (code-refused _ r) (told .judged .refused-exactly r);
+      by-the-first = λ i c f. ap (λ (o : Solved). o .answer) (told .judged .refuses i c f);
+      writes-nothing = λ r e. told .refusal-leaves r (code-refused _ r .0 e);
+    }
+
+-- Demand 2 of a call whose checks lead to such a stage
 module _ {cs : List Check} {K : ℕ} {rs : List Record} {X : Set} {win con : List ℕ} {s : Solved}
-    (answered : Answered cs K (tableOf rs) X win con s) (stage : Passes cs → Stage K rs X) where
+    (told : Answered cs K (tableOf rs) X win con s) (stage : Passes cs → Stage K rs X) where
+  -- a call that is not refused has passed every check
+  pub unrefused-passes : Unrefused (s .answer) → Passes cs
+  unrefused-passes unrefused =
+      ⊎-elim (λ p. p)
+      (λ f. absurd (unrefused (f .1 .refusal) (ap codeOf (told .judged .refused-exactly (f .1 .refusal) .1 (f .0, f .1, f .2, refl)))))
+      (first-failure cs)
+
   -- code 0: no check failed, and the start position is covered
   code-covered : codeOf (verdictOf s) ≡ 0 → Passes cs × StartCovered K (tableOf rs) X
   code-covered e =
       let r = code-realizable (verdictOf s) .0 e in
-      let c = answered .realizable-exactly (r .0) .0 (r .1) in
+      let c = told .realizable-exactly (r .0) .0 (r .1) in
       (c .0, rw (c .1) at (c .2))
 
-  pub realizable-exactly : Passes cs → (codeOf (verdictOf s) ≡ 0) ↔ ((σ : Strategy) × Realizes K (tableOf rs) σ)
+  pub realizable-exactly : Passes cs → (code (s .answer) ≡ 0) ↔ Realizable K (tableOf rs)
   realizable-exactly p =
       let covered = covered-realizable K rs X (stage p) in
-      let start = startState (tableOf rs) (winners K (tableOf rs) X) in (
+      let start = startState K (tableOf rs) (winners K (tableOf rs) X) in (
         λ e. covered .0 (code-covered e .1),
-        λ σ. code-realizable (verdictOf s) .1 (start, answered .realizable-exactly start .1 (p, refl, covered .1 σ)),
+        λ σ. code-realizable (verdictOf s) .1 (start, told .realizable-exactly start .1 (p, refl, covered .1 σ)),
       )
 
-  pub unrealizable-exactly : Passes cs → (codeOf (verdictOf s) ≡ 1) ↔ (((σ : Strategy) × Realizes K (tableOf rs) σ) → ⊥)
+  pub unrealizable-exactly : Passes cs → (code (s .answer) ≡ 1) ↔ (Realizable K (tableOf rs) → ⊥)
   unrealizable-exactly p =
       let covered = covered-realizable K rs X (stage p) in
       Iff·trans (code-unrealizable (verdictOf s)) (
-        λ e r. omega (arith, covered .1 r, answered .unrealizable-exactly .0 e .1),
+        λ e r. omega (arith, covered .1 r, told .unrealizable-exactly .0 e .1),
         λ none.
             let over : StartCovered K (tableOf rs) X → ⊥ = λ l. none (covered .0 l) in
-            answered .unrealizable-exactly .1 (p, omega arith),
+            told .unrealizable-exactly .1 (p, omega arith),
       )
 
-  pub controller-realizes : codeOf (verdictOf s) ≡ 0
-      → Realizes K (tableOf rs) (follow (rowsIn (take (s .answer .winners * tableOf rs .inputs * 4) (s .controllerAfter))) (startOf (verdictOf s)))
-  unfolding solvedFrom
+  pub controller-realizes : code (s .answer) ≡ 0 → Realizes K (tableOf rs) (controllerOf (tableOf rs) s)
+  unfolding solvedFrom answered controllerRows
   controller-realizes e =
       let c = code-covered e in
       let ws = winners K (tableOf rs) X in
-      rw (answered .judged .grants (c .0), lt-ltb (startState (tableOf rs) ws) (length ws) (c .1))
+      rw (told .judged .grants (c .0), lt-ltb (startState K (tableOf rs) ws) (length ws) (c .1))
       (written-realize K rs X (stage (c .0)) con (c .1))
 
+  -- the rounds reported
+  pub rounds-smallest-repeat : Passes cs → SmallestRepeat K (tableOf rs) X (s .answer .rounds)
+  unfolding solvedFrom answered
+  rounds-smallest-repeat p =
+      let t = tableOf rs in
+      let output = stage p .good .some-output in
+      rw (told .judged .grants p)
+      (record {
+        repeats = rounds-settled K t X (stage p .first) output;
+        smallest = rounds-smallest K t X (stage p .first);
+        at-most = omega (arith, rounds-bound K t X (stage p .first) output);
+      })
+
   pub winners-cover : Passes cs → (F : Position) → length F ≡ tableOf rs .controllers
-      → Wins K (tableOf rs) F ↔ ((i : ℕ) × (i < s .answer .winners) × (below F (winnerIn (tableOf rs .controllers) (s .winnersAfter) i) ≡ true))
-  unfolding solvedFrom
-  winners-cover p F e = rw (answered .judged .grants p) (wins-listed K rs X (stage p) win F e)
+      → Wins K (tableOf rs) F ↔ Covers (tableOf rs) s F
+  unfolding solvedFrom answered controllerRows
+  winners-cover p F e = rw (told .judged .grants p) (wins-listed K rs X (stage p) win F e)
+
+  -- demand 2 whole
+  pub stage-solves : Unrefused (s .answer) → Solves K (tableOf rs) X s
+  stage-solves u =
+      let p = unrefused-passes u in
+      record {
+        realizable-exactly = realizable-exactly p;
+        unrealizable-exactly = unrealizable-exactly p;
+        controller-realizes = controller-realizes;
+        winners-cover = winners-cover p;
+        rounds-smallest = rounds-smallest-repeat p;
+      }
 
 -- solving runs the rounds on the table from all safe positions
 pub solve-stage : (bytes : List ℕ) (K N : ℕ) (win con : List ℕ) → Passes (solveChecks bytes K N win con)

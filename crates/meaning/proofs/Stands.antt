@@ -10,21 +10,13 @@ use lib.Dec.{eqb, leb}
 use borrow.Author.Tests.{lt-leb}
 use Rattle.meaning.specs.Records.{Record, blank, at, controller, world, output, limits, limit, ofKind}
 use Rattle.meaning.specs.Table.{Table, tableOf}
-use Rattle.meaning.specs.Join.{upward, renumber}
-use Rattle.meaning.specs.Answers.{dangling}
+use Rattle.meaning.specs.Join.{upward, renumber, away, home}
+use Rattle.meaning.specs.Checks.{dangling}
 use Rattle.meaning.proofs.Tests.{neither-left}
 use Rattle.meaning.proofs.Lists.{at-member}
 use Rattle.meaning.proofs.Records.{Kind, of-controller, of-world, of-output, of-input, kind-of, kind-bounds, record-same, ofKind-of}
 use Rattle.meaning.proofs.Records.{edgeRecord, Inside}
 use Rattle.meaning.proofs.Sound.{Numbered, Sound, ends-declared}
-
--- of n controllers and m worlds, how many are on the side that a record of a kind is from, and how many on the side that it leads to
--- (0 for a state, which leads nowhere)
-abbrev pub home : ℕ → ℕ → ℕ → ℕ
-home n m kind = cond (eqb kind controller) n (cond (eqb kind world) m (cond (eqb kind output) n m))
-
-abbrev pub away : ℕ → ℕ → ℕ → ℕ
-away n m kind = cond (eqb kind controller) 0 (cond (eqb kind world) 0 (cond (eqb kind output) m n))
 
 -- the states that records declare
 abbrev pub controllersOf : List Record → ℕ

@@ -12,7 +12,7 @@ use lib.Seq.{getD-append-add, take-at, drop-at}
 use lib.Dec.{leb}
 use Rattle.meaning.specs.Lists.{largest, tab}
 use Rattle.meaning.specs.Table.{Half, Table, onOutput, onInput}
-use Rattle.meaning.specs.Counting.{Position, count, forward, safe, below, startPosition}
+use Rattle.meaning.specs.Counting.{Position, count, forward, safe, below, startPosition, plus}
 use Rattle.meaning.specs.Rounds.{allSafe}
 use Rattle.meaning.proofs.Tests.{both, both-left, both-right, each-sum, largest-sum, largest-zero}
 use Rattle.meaning.proofs.Lists.{tab-sum}
@@ -150,11 +150,12 @@ module _ (t u whole : Table) (un : Union t u whole) where
   pub worlds-sum : whole .worlds ≡ t .worlds + u .worlds
   worlds-sum = un .on-output 0 .targets
 
-  pub start-append : startPosition whole ≡ startPosition t ++ startPosition u
+  pub start-append : (K : ℕ) → startPosition K whole ≡ startPosition K t ++ startPosition K u
   unfolding startPosition
-  start-append =
-      ap (λ (n : ℕ). tab n (λ q. cond (whole .starts q) 1 0)) controllers-sum
-      ∙ tab-sum (t .controllers) (u .controllers) (λ q. cond (whole .starts q) 1 0) (λ q. cond (t .starts q) 1 0) (λ q. cond (u .starts q) 1 0)
+  start-append K =
+      let begun : Table → ℕ → ℕ = λ v q. cond (v .starts q) (plus K 0 1) 0 in
+      ap (λ (n : ℕ). tab n (begun whole)) controllers-sum
+      ∙ tab-sum (t .controllers) (u .controllers) (begun whole) (begun t) (begun u)
       (λ q l. rw (un .starts-first q l)) (λ q l. rw (un .starts-second q l))
 
   -- each half of the whole's step, by each letter

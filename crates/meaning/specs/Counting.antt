@@ -46,6 +46,7 @@ unfoldable pub back : ℕ → Half → Position → Position
 back K h F =
     tab (h .sources) (λ p. smallest (K + 1) (h .targets) (λ q. cond (h .edge p q) (count F q - h .mark q) (K + 1)))
 
--- "The start position gives 0 to each start state and -1 to the others. A start state's own mark is not counted there."
-unfoldable pub startPosition : Table → Position
-startPosition t = tab (t .controllers) (λ q. cond (t .starts q) 1 0)
+-- "The start position gives 0 to each start state and -1 to the others. A start state's own mark is not counted there.": count 0
+-- plus no mark
+unfoldable pub startPosition : ℕ → Table → Position
+startPosition K t = tab (t .controllers) (λ q. cond (t .starts q) (plus K 0 1) 0)

@@ -6,5 +6,8 @@ pub mod Counting
 pub mod Rounds
 pub mod Written
 pub mod Join
+pub mod Checks
 pub mod Answers
 pub mod Play
+pub mod Calls
+pub mod Demands

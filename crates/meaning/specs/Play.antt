@@ -61,3 +61,12 @@ stateAfter rows s (i ∷ inputs) = rowNext rows (stateAfter rows s inputs) i
 
 unfoldable pub follow : List Row → ℕ → Strategy
 follow rows s inputs = rowOutput rows (stateAfter rows s inputs)
+
+-- "keeps every run of the table to at most K entries into marked states, for every finite sequence of inputs": this strategy does
+pub record Realizes (K : ℕ) (t : Table) (σ : Strategy) : Type 0 where
+  pub legal : Legal t σ
+  pub keeps : (p : ℕ) → t .starts p ≡ true → {inputs : List ℕ} {q e : ℕ} → Run t σ p inputs q e → e ≤ K
+
+-- "some way of choosing outputs from the inputs so far" does
+abbrev pub Realizable : ℕ → Table → Type 0
+Realizable K t = (σ : Strategy) × Realizes K t σ

@@ -1,8 +1,9 @@
 -- Document 01, "Rounds and their named sets". A set of positions is a test; the rounds take their first set as a parameter, since by
 -- parts replaces it.
+use mathlib.Core.Path.{_≡_}
 use mathlib.Core.Bool.{Bool, not, _&&_, Bool·beq}
 use mathlib.Core.List.{List, [], _∷_, map, flatMap}
-use Prim.Native.Nat.{ℕ, zero, suc, _+_, _^_, max}
+use Prim.Native.Nat.{ℕ, zero, suc, _+_, _^_, _≤_, _<_, max}
 use lib.ListN.{length}
 use lib.Dec.{eqb, ltb}
 use Rattle.meaning.specs.Lists.{each, some, first, largest, tab, keep, every, any}
@@ -51,6 +52,12 @@ equal K n X Y = every (λ (F : Position). Bool·beq (X F) (Y F)) (positions K n)
 unfoldable pub rounds : ℕ → Table → Set → ℕ
 rounds K t X = first ((K + 2) ^ t .controllers) (λ r. equal K (t .controllers) (setW K t X r) (setW K t X (suc r)))
 
+-- the same, said of the sets
+pub record SmallestRepeat (K : ℕ) (t : Table) (X : Set) (r : ℕ) : Type 0 where
+  pub repeats : (F : Position) → setW K t X r F ≡ setW K t X (suc r) F
+  pub smallest : (j : ℕ) → j < r → ((F : Position) → setW K t X j F ≡ setW K t X (suc j) F) → ⊥
+  pub at-most : r + 1 ≤ (K + 2) ^ t .controllers
+
 -- "The winning set is that W(r)."
 unfoldable pub winning : ℕ → Table → Set → Set
 winning K t X = setW K t X (rounds K t X)
@@ -66,3 +73,13 @@ widthOfRound K t W =
 -- members than the room N."
 unfoldable pub full : ℕ → Table → Set → ℕ → Bool
 full K t X N = ltb N (largest (suc (rounds K t X)) (λ r. widthOfRound K t (setW K t X r)))
+
+-- the same, said of the sets: "some W, A or B of it has more maximal members than the room N", of the round that begins with W,
+pub data Crowded (K : ℕ) (t : Table) (W : Set) (N : ℕ) : Type 0 where
+  in-W : N < length (maximalMembers K (t .controllers) W) → Crowded K t W N
+  in-A : (j : ℕ) → j ≤ t .inputs → N < length (maximalMembers K (t .worlds) (setA K t W j)) → Crowded K t W N
+  in-B : (k : ℕ) → k ≤ t .outputs → N < length (maximalMembers K (t .controllers) (setB K t W k)) → Crowded K t W N
+
+-- "in a round up to and including the one that shows equality"
+abbrev pub Overfull : ℕ → Table → Set → ℕ → Type 0
+Overfull K t X N = (r : ℕ) × (r ≤ rounds K t X) × Crowded K t (setW K t X r) N

@@ -5,7 +5,7 @@ use Prim.Native.Nat.{ℕ, suc, _/_, _%_, _^_}
 use lib.ListN.{length}
 use lib.Dec.{eqb, ltb}
 use Rattle.meaning.specs.Lists.{any, largest}
-use Rattle.meaning.specs.Records.{Record, at, ofKind, same, controller, world, output, input}
+use Rattle.meaning.specs.Records.{Record, recordsOf, at, ofKind, same, controller, world, output, input}
 
 -- One letter's step from one side to the other: how many states each side has, the edges on that letter, and the mark of the
 -- state entered. "Kind 3 leads from a controller-turn state to a world-turn state, kind 4 back": both are such halves of a round.
@@ -37,12 +37,19 @@ onInput t i = record { sources = t .worlds; targets = t .controllers; edge = t .
 unfoldable pub letters : ℕ → List Record → ℕ
 letters kind rs = let es = ofKind kind rs in largest (length es) (λ i. suc (at es i .letter))
 
--- "flags: 1 marked, 2 start". "The mark is 1 for a marked state and 0 otherwise." State q of a side is its record number q.
-unfoldable pub markOf : ℕ → List Record → ℕ → ℕ
-markOf kind rs = let states = ofKind kind rs in λ q. at states q .letter % 2
+-- "flags: 1 marked, 2 start". "The mark is 1 for a marked state and 0 otherwise.": what bytes 2 and 3 of a state's record say
+unfoldable pub markIn : Record → ℕ
+markIn r = r .letter % 2
 
-unfoldable pub startOf : List Record → ℕ → Bool
-startOf rs = let states = ofKind controller rs in λ q. eqb (at states q .letter / 2) 1
+unfoldable pub startIn : Record → Bool
+startIn r = eqb (r .letter / 2) 1
+
+-- state q of a side is its record number q
+unfoldable pub markOf : ℕ → List Record → ℕ → ℕ
+markOf kind rs = let states = ofKind kind rs in λ q. markIn (at states q)
+
+unfoldable pub startsOf : List Record → ℕ → Bool
+startsOf rs = let states = ofKind controller rs in λ q. startIn (at states q)
 
 -- "Several edges may share a state and a letter: all of them are followed."
 unfoldable pub edgeOf : ℕ → List Record → ℕ → ℕ → ℕ → Bool
@@ -55,12 +62,16 @@ tableOf rs =
       worlds = length (ofKind world rs);
       outputs = letters output rs;
       inputs = letters input rs;
-      starts = startOf rs;
+      starts = startsOf rs;
       controllerMark = markOf controller rs;
       worldMark = markOf world rs;
       outputEdge = edgeOf output rs;
       inputEdge = edgeOf input rs;
     }
+
+-- the table that bytes state
+abbrev pub stated : List ℕ → Table
+stated bytes = tableOf (recordsOf bytes)
 
 -- "The targets of one state on one letter are kept as eight bits": bit q of a mask
 unfoldable pub bit : ℕ → ℕ → Bool

@@ -1,5 +1,5 @@
 -- Document 01, "What is written": the winners' bytes, and the controller's rows.
-use mathlib.Core.Bool.{not}
+use mathlib.Core.Bool.{not, Bool}
 use mathlib.Core.List.{List, [], _∷_, flatMap}
 use Prim.Native.Nat.{ℕ}
 use lib.ListN.{length, getD}
@@ -28,13 +28,17 @@ covering ws F = place (below F) ws
 unfoldable pub afterRound : ℕ → Table → ℕ → ℕ → Position → Position
 afterRound K t o i F = forward K (onInput t i) (forward K (onOutput t o) F)
 
+-- from the letter o "every input leads back into the winning set"
+unfoldable pub leadsBack : ℕ → Table → Set → Position → ℕ → Bool
+leadsBack K t won F o = each (t .inputs) (λ i. won (afterRound K t o i F))
+
 -- "A state's output is the smallest letter from which every input leads back into the winning set."
 unfoldable pub outputOf : ℕ → Table → Set → Position → ℕ
-outputOf K t won F = first (t .outputs) (λ o. each (t .inputs) (λ i. won (afterRound K t o i F)))
+outputOf K t won F = first (t .outputs) (leadsBack K t won F)
 
 -- "The start state is the first winner that the start position is below."
-unfoldable pub startState : Table → List Position → ℕ
-startState t ws = covering ws (startPosition t)
+unfoldable pub startState : ℕ → Table → List Position → ℕ
+startState K t ws = covering ws (startPosition K t)
 
 -- "The start state's rows come first, then the others by state"
 unfoldable pub stateOrder : ℕ → ℕ → List ℕ
@@ -58,7 +62,9 @@ rowsOfState K t won ws s =
     let o = outputOf K t won F in
     tab (t .inputs) (λ i. record { state = s; output = o; input = i; next = covering ws (afterRound K t o i F) })
 
+-- the controller's rows, from a winning set and its list of winners
+unfoldable pub rowsFrom : ℕ → Table → Set → List Position → List Row
+rowsFrom K t won ws = flatMap (rowsOfState K t won ws) (stateOrder (startState K t ws) (length ws))
+
 unfoldable pub controllerRows : ℕ → Table → Set → List Row
-controllerRows K t X =
-    let ws = winners K t X in
-    flatMap (rowsOfState K t (winning K t X) ws) (stateOrder (startState t ws) (length ws))
+controllerRows K t X = rowsFrom K t (winning K t X) (winners K t X)

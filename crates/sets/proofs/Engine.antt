@@ -12,7 +12,7 @@ use native.Mathlib.Omega.{arith}
 use lib.ListN.{length, length-map}
 use Rattle.meaning.specs.Table.{Half, Table, onOutput, onInput}
 use Rattle.meaning.specs.Counting.{Position, back}
-use Rattle.meaning.specs.Rounds.{Set, allSafe, setA, setB, setW, rounds, winning, maximalMembers, full}
+use Rattle.meaning.specs.Rounds.{Set, allSafe, setA, setB, setW, rounds, winning, maximalMembers, full, Crowded}
 use Rattle.meaning.specs.Written.{positionBytes, winners}
 use Rattle.meaning.proofs.Tests.{refuted, below-last}
 use Rattle.meaning.proofs.Steps.{back-length}
@@ -20,7 +20,7 @@ use Rattle.meaning.proofs.Positions.{allSafe-length}
 use Rattle.meaning.proofs.Rounds.{Down, Within, FirstSet, setA-safe, setB-safe}
 use Rattle.meaning.proofs.Rounds.{setW-down, setW-safe, rounds-bound, rounds-settled, rounds-smallest}
 use Rattle.meaning.proofs.Maximal.{member-in, members-determine, members-same}
-use Rattle.meaning.proofs.Full.{Crowded, in-W, in-A, in-B, full-exactly}
+use Rattle.meaning.proofs.Full.{in-W, in-A, in-B, full-exactly}
 use Rattle.counts.proofs.Wide.{wide-at, wide-same, back-reads}
 use Rattle.sets.specs.Tops.{tops, meets}
 use Rattle.sets.specs.Engine.{backWide, cutBy, widenBy, brim, listA, listB, nextList}

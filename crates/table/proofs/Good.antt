@@ -9,9 +9,8 @@ use lib.ListN.{length, List·getD-eq-default}
 use lib.Dec.{eqb}
 use Rattle.meaning.specs.Records.{Record, recordsOf, at, blank, ofKind, controller, world, output, input}
 use Rattle.meaning.specs.Table.{tableOf, markOf, startOf, edgeOf}
-use Rattle.meaning.specs.Answers.{tableChecks}
+use Rattle.meaning.specs.Checks.{tableChecks, Passes}
 use Rattle.meaning.proofs.Records.{edgeRecord, edge-member, Inside, inside-bytes}
-use Rattle.meaning.proofs.Checks.{Passes}
 use Rattle.meaning.proofs.Sound.{Numbered, states-top, passes-sound}
 use Rattle.table.specs.declared.Table.{Table}
 use Rattle.table.specs.Packed.{tableIn, packed}

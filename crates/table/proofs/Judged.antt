@@ -8,7 +8,7 @@ use mathlib.Core.List.{List, [], _∷_, map}
 use Prim.Native.Nat.{ℕ}
 use native.Mathlib.Omega.{arith}
 use Rattle.meaning.specs.declared.Refusal.{Refusal}
-use Rattle.meaning.specs.Answers.{Check, judge, tableChecks}
+use Rattle.meaning.specs.Checks.{Check, judge, tableChecks}
 use Rattle.meaning.proofs.Checks as C
 use Rattle.meaning.proofs.Checks.{Failure, first-failure, judge-fails}
 use Rattle.meaning.proofs.Sound.{other-which}

@@ -13,7 +13,7 @@ use lib.Dec.{eqb}
 use borrow.Author.Tests.{eq-eqb}
 use Rattle.meaning.specs.Lists.{each}
 use Rattle.meaning.specs.Records.{Record, recordsOf, at, blank, ofKind}
-use Rattle.meaning.specs.Answers.{misnumbered}
+use Rattle.meaning.specs.Checks.{misnumbered}
 use Rattle.meaning.proofs.Tests.{both, decided, each-same}
 use Rattle.meaning.proofs.Sound.{numbered-at}
 use Rattle.table.proofs.Records.{records-count}

@@ -11,7 +11,7 @@ use lib.ListN.{length, getD, take, List·getD-eq-default}
 use lib.Seq.{take-all, take-suc}
 use Rattle.meaning.specs.Lists.{place}
 use Rattle.meaning.specs.Records.{Record, recordsOf, at, blank, ascends}
-use Rattle.meaning.specs.Answers.{descent}
+use Rattle.meaning.specs.Checks.{descent}
 use Rattle.meaning.proofs.Tests.{first-is}
 use Rattle.meaning.proofs.Records.{record-same}
 use Rattle.table.proofs.Searches.{first-none, place-is, place-none}

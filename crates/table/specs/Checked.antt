@@ -1,6 +1,6 @@
 -- What checks 4 to 10 of one table come to.
 use mathlib.Core.List.{List}
-use Rattle.meaning.specs.Answers.{Check, judge}
+use Rattle.meaning.specs.Checks.{Check, judge}
 use Rattle.table.specs.declared.Checked.{Checked}
 use Rattle.table.specs.declared.Checked.the-variants.{Passes, Fails}
 

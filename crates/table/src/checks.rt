@@ -9,7 +9,7 @@ use meaning::Refusal;
 ghost use mathlib.Core.Path.{_≡_};
 ghost use Rattle.meaning.specs.Lists.{place, each, some};
 ghost use Rattle.meaning.specs.Records.{recordsOf, ofKind, outside};
-ghost use Rattle.meaning.specs.Answers.{tableChecks, wrongLength, descent, misnumbered as misnumberedStates, noStart, dangling as danglingEdge, gap as gapOf};
+ghost use Rattle.meaning.specs.Checks.{tableChecks, wrongLength, descent, misnumbered as misnumberedStates, noStart, dangling as danglingEdge, gap as gapOf};
 ghost use Rattle.table.specs.Packed.{recordIn, tableIn, edgeIn};
 ghost use Rattle.table.specs.Checked.{checkedOf};
 

@@ -7,10 +7,10 @@ use native.Mathlib.Omega.{arith}
 use borrow.Author.Needs.{needs}
 use denote.Ref.{now}
 use Rattle.meaning.specs.Rounds.{allSafe}
-use Rattle.meaning.specs.Answers.{judge, room, tableChecks, stageChecks, unsolved, solvedFrom, solve}
+use Rattle.meaning.specs.Answers.{unsolved, solvedFrom, solve}
+use Rattle.meaning.specs.Checks.{judge, room, tableChecks, stageChecks, Passes}
 use Rattle.meaning.proofs.Rounds.{allSafe-first}
-use Rattle.meaning.proofs.Checks.{Passes}
-use Rattle.meaning.proofs.Answers.{stated}
+use Rattle.meaning.specs.Table.{stated}
 use Rattle.table.specs.Packed.{tableIn}
 use Rattle.table.proofs.Judged.{passes-none-fails}
 use Rattle.table.proofs.Good.{good-table}

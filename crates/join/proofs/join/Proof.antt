@@ -9,8 +9,8 @@ use borrow.Author.Tests.{lt-ltb, le-ltb}
 use denote.Ref.{now}
 use lib.ListN.{length}
 use Rattle.meaning.specs.declared.Refusal.the-variants.{Room}
-use Rattle.meaning.specs.Answers.{check, roomToJoin, pairChecks, joinChecks, join}
-use Rattle.meaning.proofs.Answers.{unjoined, joinedInto}
+use Rattle.meaning.specs.Answers.{join, unjoined, joinedInto}
+use Rattle.meaning.specs.Checks.{check, roomToJoin, pairChecks, joinChecks}
 use Rattle.join.specs.declared.pair.Paired.{Paired}
 use Rattle.join.specs.Joined.{pairedOf, joinedBytes}
 use Rattle.join.proofs.Paired.{byPaired, judge-paired}

@@ -7,7 +7,8 @@ use borrow.Author.Needs.{needs}
 use borrow.Author.Tests.{lt-ltb, le-ltb}
 use denote.Ref.{now}
 use Rattle.meaning.specs.declared.Refusal.the-variants.{Bound, Room}
-use Rattle.meaning.specs.Answers.{check, bound, room, unsolved, pairChecks, parts}
+use Rattle.meaning.specs.Answers.{unsolved, parts}
+use Rattle.meaning.specs.Checks.{check, bound, room, pairChecks}
 use Rattle.join.specs.declared.pair.Paired.{Paired}
 use Rattle.join.specs.Joined.{pairedOf}
 use Rattle.join.specs.Parts.{inTurn}

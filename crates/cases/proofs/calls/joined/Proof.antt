@@ -12,7 +12,8 @@ use Rattle.io.proofs.Counting.{counts}
 use Rattle.meaning.specs.declared.Answer.{Answer}
 use Rattle.meaning.specs.declared.Verdict.the-variants.{Realizable}
 use Rattle.meaning.specs.Answers.{codeOf, join}
-use Rattle.meaning.proofs.Answers.{joinedBytes, join-judged}
+use Rattle.meaning.proofs.Answers.{join-judged}
+use Rattle.meaning.specs.Join.{joinedBytes}
 use Rattle.meaning.proofs.Codes.{code-realizable}
 use Rattle.cases.proofs.calls.joined.Statement.{statement}
 use Rattle.cases.proofs.calls.joined.Tie as tie

@@ -7,9 +7,8 @@ use native.Mathlib.Omega.{arith}
 use borrow.Author.Needs.{needs}
 use denote.Ref.{now}
 use Rattle.meaning.specs.declared.Refusal.the-variants.{Full}
-use Rattle.meaning.specs.Answers.{check, pairChecks}
-use Rattle.meaning.proofs.Checks.{Passes}
-use Rattle.meaning.proofs.Answers.{stated}
+use Rattle.meaning.specs.Checks.{check, pairChecks, Passes}
+use Rattle.meaning.specs.Table.{stated}
 use Rattle.table.specs.declared.Table as T
 use Rattle.table.specs.Packed.{packed}
 use Rattle.sets.specs.Members.{members}

@@ -11,11 +11,10 @@ use lib.ListN.{length, take}
 use lib.Seq.{take-append-seam}
 use Rattle.meaning.specs.declared.Refusal.the-variants.{Full}
 use Rattle.meaning.specs.Records.{recordsOf}
-use Rattle.meaning.specs.Table.{tableOf}
-use Rattle.meaning.specs.Join.{pairs}
-use Rattle.meaning.specs.Answers.{check, unsolved, pairChecks}
-use Rattle.meaning.proofs.Checks.{Passes}
-use Rattle.meaning.proofs.Answers.{stated, joinedTable}
+use Rattle.meaning.specs.Table.{tableOf, stated}
+use Rattle.meaning.specs.Join.{pairs, joinedTable}
+use Rattle.meaning.specs.Answers.{unsolved}
+use Rattle.meaning.specs.Checks.{check, pairChecks, Passes}
 use Rattle.table.specs.Packed.{tableIn, packed}
 use Rattle.sets.specs.Members.{members}
 use Rattle.game.specs.Rounds.{Settles}

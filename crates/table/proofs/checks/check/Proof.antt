@@ -18,7 +18,7 @@ use Rattle.meaning.specs.declared.Refusal.the-variants.{Record as Recorded, Ord
 use Rattle.meaning.specs.Records.{recordsOf, outside, ofKind, controller, world}
 use Rattle.meaning.specs.Table as T
 use Rattle.meaning.specs.Table.{tableOf}
-use Rattle.meaning.specs.Answers.{Check, bound, tableChecks, misnumbered, noStart, dangling, gap}
+use Rattle.meaning.specs.Checks.{Check, bound, tableChecks, misnumbered, noStart, dangling, gap}
 use Rattle.meaning.proofs.Tests.{either-left, either-right}
 use Rattle.meaning.proofs.Lists.{no-place}
 use Rattle.meaning.proofs.Records.{inside-at}

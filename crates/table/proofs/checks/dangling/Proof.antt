@@ -3,7 +3,7 @@ use mathlib.Core.Path.{sym}
 use mathlib.Core.Bool.{or-false}
 use borrow.Author.Needs.{needs}
 use borrow.Author.Tests.{ne-eqb, le-leb, lt-leb}
-use Rattle.meaning.specs.Answers.{dangling}
+use Rattle.meaning.specs.Checks.{dangling}
 use Rattle.table.specs.Packed.{tableIn}
 use Rattle.table.proofs.checks.dangling.Statement.{statement}
 use Rattle.table.proofs.checks.dangling.Tie as tie

@@ -9,7 +9,7 @@ use borrow.Author.Needs.{needs}
 use denote.Ref.{now}
 use lib.ListN.{length}
 use Rattle.meaning.specs.Records.{recordsOf, at}
-use Rattle.meaning.specs.Answers.{dangling}
+use Rattle.meaning.specs.Checks.{dangling}
 use Rattle.table.specs.Packed.{tableIn}
 use Rattle.table.proofs.Records.{found-here, found-nowhere}
 use Rattle.table.proofs.checks.first_dangling.Statement.{statement}

@@ -6,7 +6,7 @@ use borrow.Author.Tests.{eq-eqb, ne-eqb, not-true, not-false}
 use Rattle.meaning.specs.Lists.{each}
 use Rattle.meaning.specs.Table as T
 use Rattle.meaning.specs.Table.{onOutput, onInput}
-use Rattle.meaning.specs.Answers.{gap, total}
+use Rattle.meaning.specs.Checks.{gap, total}
 use Rattle.table.specs.Packed.{tableIn}
 use Rattle.table.proofs.checks.gap.Statement.{statement}
 use Rattle.table.proofs.checks.gap.Tie as tie

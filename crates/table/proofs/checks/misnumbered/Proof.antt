@@ -11,7 +11,7 @@ use denote.Ref.{now}
 use lib.Dec.{eqb}
 use lib.ListN.{length, take}
 use Rattle.meaning.specs.Records.{Record, recordsOf, ofKind}
-use Rattle.meaning.specs.Answers.{misnumbered}
+use Rattle.meaning.specs.Checks.{misnumbered}
 use Rattle.table.specs.Packed.{recordIn}
 use Rattle.table.proofs.Records.{next-record, all-records}
 use Rattle.table.proofs.Parts.{ofKind-few, ofKind-other, states-this}

@@ -2,7 +2,7 @@
 use mathlib.Core.Path.{ap}
 use mathlib.Core.Bool.{not}
 use borrow.Author.Needs.{needs}
-use Rattle.meaning.specs.Answers.{noStart}
+use Rattle.meaning.specs.Checks.{noStart}
 use Rattle.table.specs.Packed.{tableIn}
 use Rattle.table.proofs.checks.no_start.Statement.{statement}
 use Rattle.table.proofs.checks.no_start.Tie as tie

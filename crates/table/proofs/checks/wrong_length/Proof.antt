@@ -1,6 +1,6 @@
 -- `wrong_length` is its three tests in turn. Assumes nothing.
 use borrow.Author.Tests.{eq-eqb, ne-eqb}
-use Rattle.meaning.specs.Answers.{wrongLength}
+use Rattle.meaning.specs.Checks.{wrongLength}
 use Rattle.table.proofs.checks.wrong_length.Statement.{statement}
 use Rattle.table.proofs.checks.wrong_length.Tie as tie
 
