@@ -1,7 +1,6 @@
 -- The laws that belong to no one function, each after those it cites.
 pub mod Searches
 pub mod Records
-pub mod Masks
 pub mod Parts
 pub mod Edges
 pub mod Numbers

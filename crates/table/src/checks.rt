@@ -1,7 +1,6 @@
 // Checks 4 to 10, each over the whole table, in their order.
 use crate::Checked;
 use crate::Table;
-use crate::mask;
 use crate::read;
 use crate::record;
 use crate::record::Record;
@@ -108,7 +107,7 @@ fn misnumbered(bytes: &[u8], kind: u8) -> bool
 fn no_start(table: Table) -> bool
     ensures { λ r. ⌜ r ≡ noStart (tableIn table) ⌝ }
 {
-    !mask::has_any(table.starts, table.controllers)
+    !masks::has_any(table.starts, table.controllers)
 }
 
 // 9: the first edge that names a state without a record, or the number of records.
@@ -194,5 +193,5 @@ fn leads(targets: [u8; 64], letter: usize, p: usize, reached: usize) -> bool
     if 8 <= p {
         return false;
     }
-    mask::has_any(targets[letter * 8 + p], reached)
+    masks::has_any(targets[letter * 8 + p], reached)
 }

@@ -1,6 +1,5 @@
 // From a table's bytes to a refusal with its place, or to the table in masks and marks.
 pub mod checks;
-pub mod mask;
 pub mod read;
 pub mod record;
 
