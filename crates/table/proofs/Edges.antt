@@ -17,7 +17,7 @@ use Rattle.meaning.proofs.Records.{same-equal, edgeRecord}
 use Rattle.masks.specs.Mask.{mask}
 use Rattle.masks.proofs.Masks.{mask-same, bit-of-mask}
 use Rattle.table.specs.Packed.{targets}
-use Rattle.table.proofs.Parts.{tab-set}
+use Rattle.table.proofs.OneMore.{tab-set}
 
 -- an edge of a kind, from one of eight states on one of eight letters
 abbrev pub isEdge : Record → ℕ → Bool

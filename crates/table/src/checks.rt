@@ -175,7 +175,7 @@ fn total_on(targets: [u8; 64], letter: usize, sources: usize, reached: usize) ->
 {
     let mut p = 0;
     while p < sources {
-        if !leads(targets, letter, p, reached) {
+        if !has_edge(targets, letter, p, reached) {
             return false;
         }
         p += 1;
@@ -184,7 +184,7 @@ fn total_on(targets: [u8; 64], letter: usize, sources: usize, reached: usize) ->
 }
 
 // Whether a state has an edge for one letter.
-fn leads(targets: [u8; 64], letter: usize, p: usize, reached: usize) -> bool
+fn has_edge(targets: [u8; 64], letter: usize, p: usize, reached: usize) -> bool
     ensures { λ r. ⌜ r ≡ some reached (λ q. edgeIn targets letter p q) ⌝ }
 {
     if 8 <= letter {
