@@ -25,3 +25,9 @@ pub enum Checked {
     Passes,
     Fails(Refusal, usize),
 }
+
+// A table's bytes, checked and read in one go: the table is there if they pass, and else none.
+pub struct Reading {
+    pub checked: Checked,
+    pub table: Table,
+}

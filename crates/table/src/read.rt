@@ -54,7 +54,7 @@ fn states(bytes: &[u8], kind: u8) -> usize
 }
 
 // One more than the largest letter of a kind, or 0.
-fn letters(bytes: &[u8], kind: u8) -> usize
+pub fn letters(bytes: &[u8], kind: u8) -> usize
     ensures { λ r. ⌜ r ≡ lettersOf kind (recordsOf (now (bytes .entry))) ⌝ }
 {
     let mut count = 0;
