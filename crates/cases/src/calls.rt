@@ -3,6 +3,7 @@ use crate::print;
 use crate::tables::FIRST;
 use crate::tables::OWED;
 use crate::tables::SILENT;
+use table::record::INPUT;
 ghost use mathlib.Core.Path.{_≡_};
 ghost use mathlib.Core.Bool.{cond};
 ghost use lib.Dec.{eqb};
@@ -49,8 +50,8 @@ pub fn small(name: &[u8], table: &[u8], k: usize, room: usize) {
     let mut winners = [9u8; 16];
     let mut controller = [9u8; 64];
     let answer = game::solve(table, k, room, &mut winners, &mut controller);
-    let rules = table::read::read(table);
-    print::call(name, answer, rules.inputs, &winners, &controller);
+    let inputs = table::read::letters(table, INPUT);
+    print::call(name, answer, inputs, &winners, &controller);
 }
 
 // Two tables by parts, with buffers of 9s for four positions.
@@ -58,8 +59,8 @@ pub fn parts(name: &[u8], first: &[u8], second: &[u8], k: usize, room: usize) {
     let mut winners = [9u8; 32];
     let mut controller = [9u8; 128];
     let answer = join::parts(first, second, k, room, &mut winners, &mut controller);
-    let rules = table::read::read(first);
-    print::call(name, answer, rules.inputs, &winners, &controller);
+    let inputs = table::read::letters(first, INPUT);
+    print::call(name, answer, inputs, &winners, &controller);
 }
 
 // Joins two tables into a lent buffer of 9s, and answers how many bytes that wrote.
@@ -90,6 +91,6 @@ fn large(name: &[u8], file: &[u8], room: usize) {
     let mut winners = [9u8; 2048];
     let mut controller = [9u8; 8192];
     let answer = game::solve(&table[..n], 7, room, &mut winners, &mut controller);
-    let rules = table::read::read(&table[..n]);
-    print::call(name, answer, rules.inputs, &winners, &controller);
+    let inputs = table::read::letters(&table[..n], INPUT);
+    print::call(name, answer, inputs, &winners, &controller);
 }

@@ -15,7 +15,9 @@ fn show(name: &[u8], bytes: &[u8]) {
     io::write_all(STDOUT_FILENO, name);
     let mut code = 0;
     let mut place = 0;
-    match table::checks::check(bytes) {
+    let reading = table::checks::check(bytes);
+    let checked = reading.checked;
+    match checked {
         Checked::Passes => {}
         Checked::Fails(refusal, at) => {
             code = meaning::number(refusal);

@@ -3,6 +3,7 @@
 use libc::STDIN_FILENO;
 use libc::STDOUT_FILENO;
 use meaning::Answer;
+use table::record::INPUT;
 ghost use Prim.Native.Nat.{_≤_};
 
 fn main() {
@@ -17,8 +18,8 @@ fn main() {
         let verdict = answer.verdict;
         let code = meaning::code(verdict);
         if code == 0 {
-            let rules = table::read::read(&table[..n]);
-            let end = bytes_of_rows(answer.winners, rules.inputs);
+            let inputs = table::read::letters(&table[..n], INPUT);
+            let end = bytes_of_rows(answer.winners, inputs);
             print_rows(&controller[..end]);
         }
         if code != 1 {

@@ -13,7 +13,7 @@ use Rattle.meaning.proofs.Lists.{tab-at, tab-beyond}
 use Rattle.counts.specs.Cells.{halfOf}
 use Rattle.counts.specs.declared.position.Half.{Half}
 use Rattle.table.specs.Packed.{edgeIn}
-use Rattle.table.proofs.Masks.{bit-none}
+use Rattle.masks.proofs.Masks.{bit-none}
 
 -- the bytes of one letter
 abbrev pub masksOn : List ℕ → ℕ → List ℕ

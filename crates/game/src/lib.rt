@@ -9,7 +9,6 @@ use meaning::Refusal;
 use rounds::Settled;
 use table::Checked;
 use table::checks;
-use table::read;
 ghost use mathlib.Core.Path.{_≡_};
 ghost use mathlib.Core.Bool.{_||_};
 ghost use Prim.Native.Nat.{_*_};
@@ -34,11 +33,12 @@ pub fn solve(
     if small_room(room, winners.len(), controller.len()) {
         return finish::refused(Refusal::Room, 0, 0);
     }
-    let checked = checks::check(table);
+    let reading = checks::check(table);
+    let checked = reading.checked;
     if let Checked::Fails(refusal, place) = checked {
         return finish::refused(refusal, place, 0);
     }
-    let table = read::read(table);
+    let table = reading.table;
     let mut list = [[-1i8; 8]; 256];
     let settled = rounds::settle_all(table, k, room, &mut list);
     let Settled::After(rounds, n) = settled else {

@@ -19,7 +19,7 @@ use Rattle.meaning.proofs.JoinKinds.{beside-kind}
 use Rattle.table.specs.declared.Table.{Table}
 use Rattle.table.specs.Packed.{packed}
 use Rattle.table.proofs.Records.{records-count}
-use Rattle.table.proofs.Parts.{ofKind-around, ofKind-this, ofKind-other}
+use Rattle.table.proofs.OneMore.{ofKind-around, ofKind-this, ofKind-other}
 use Rattle.join.specs.Joined.{joinedBytes, movedBytes, Stored}
 
 -- one run of bytes and then another

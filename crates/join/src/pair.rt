@@ -2,7 +2,6 @@
 use meaning::Refusal;
 use table::Checked;
 use table::checks;
-use table::read;
 ghost use mathlib.Core.Path.{_≡_};
 ghost use Rattle.meaning.specs.Checks.{pairChecks};
 ghost use Rattle.join.specs.Joined.{pairedOf};
@@ -18,14 +17,18 @@ pub enum Paired {
 pub fn pair(first: &[u8], second: &[u8]) -> Paired
     ensures { λ r. ⌜ r ≡ pairedOf (pairChecks (now (first .entry)) (now (second .entry))) ⌝ }
 {
-    if let Checked::Fails(refusal, place) = checks::check(first) {
+    let one_read = checks::check(first);
+    let one_checked = one_read.checked;
+    if let Checked::Fails(refusal, place) = one_checked {
         return Paired::Fails(refusal, place, 1);
     }
-    if let Checked::Fails(refusal, place) = checks::check(second) {
+    let two_read = checks::check(second);
+    let two_checked = two_read.checked;
+    if let Checked::Fails(refusal, place) = two_checked {
         return Paired::Fails(refusal, place, 2);
     }
-    let one = read::read(first);
-    let two = read::read(second);
+    let one = one_read.table;
+    let two = two_read.table;
     if one.outputs != two.outputs || one.inputs != two.inputs {
         return Paired::Fails(Refusal::Letters, 0, 0);
     }

@@ -14,9 +14,10 @@ use Rattle.meaning.specs.Table.{edgeOf, bit}
 use Rattle.meaning.proofs.Tests.{both, both-left, both-right, clash, refuted}
 use Rattle.meaning.proofs.Lists.{tab-length, tab-at, tab-same}
 use Rattle.meaning.proofs.Records.{same-equal, edgeRecord}
-use Rattle.table.specs.Packed.{mask, targets}
-use Rattle.table.proofs.Masks.{mask-same, bit-of-mask}
-use Rattle.table.proofs.Parts.{tab-set}
+use Rattle.masks.specs.Mask.{mask}
+use Rattle.masks.proofs.Masks.{mask-same, bit-of-mask}
+use Rattle.table.specs.Packed.{targets}
+use Rattle.table.proofs.OneMore.{tab-set}
 
 -- an edge of a kind, from one of eight states on one of eight letters
 abbrev pub isEdge : Record → ℕ → Bool

@@ -1,20 +1,24 @@
 -- What a call may take from `check`'s answer: whichever of its tables the bytes are, judging checks 4 to 10 gives what the answer's case
--- says, and where it passes none of them fails. The checks of table 1 or 2 differ from those of table 0 in that number alone. By induction on
--- the checks, and since the first check that fails is told. Assumes nothing.
-use mathlib.Core.Path.{_≡_, refl, sym, _∙_}
+-- says, and where it passes none of them fails and the table is that of the records. The checks of table 1 or 2 differ from those of table 0
+-- in that number alone. By induction on the checks, and since the first check that fails is told. Assumes nothing.
+use mathlib.Core.Path.{_≡_, refl, sym, ap, _∙_}
 use mathlib.Core.Logic.{_⊎_, inl, inr}
 use mathlib.Core.Bool.{Bool, true, false}
 use mathlib.Core.List.{List, [], _∷_, map}
 use Prim.Native.Nat.{ℕ}
 use native.Mathlib.Omega.{arith}
 use Rattle.meaning.specs.declared.Refusal.{Refusal}
+use Rattle.meaning.specs.Records.{recordsOf}
+use Rattle.meaning.specs.Table.{tableOf}
 use Rattle.meaning.specs.Checks.{Check, judge, tableChecks}
 use Rattle.meaning.proofs.Checks as C
 use Rattle.meaning.proofs.Checks.{Failure, first-failure, judge-fails}
 use Rattle.meaning.proofs.Sound.{other-which}
 use Rattle.table.specs.declared.Checked.{Checked}
 use Rattle.table.specs.declared.Checked.the-variants.{Passes, Fails}
-use Rattle.table.specs.Checked.{checkedOf}
+use Rattle.table.specs.declared.Reading.{Reading}
+use Rattle.table.specs.Packed.{packed}
+use Rattle.table.specs.Checked.{checkedOf, unlessRefused, readingOf}
 
 -- a failed check of a table
 abbrev pub failedCheck : ℕ → Refusal → ℕ → Check
@@ -58,3 +62,12 @@ none-fails cs p = go (first-failure cs)
 
 pub passes-none-fails : (which : ℕ) (bytes : List ℕ) → checkedOf (tableChecks 0 bytes) ≡ Passes → C.Passes (tableChecks which bytes)
 passes-none-fails which bytes p = other-which 0 which bytes (none-fails (tableChecks 0 bytes) p)
+
+-- what the answer's two fields are
+module _ (bytes : List ℕ) {r : Reading} (e : r ≡ readingOf bytes) where
+  pub reading-checked : r .checked ≡ checkedOf (tableChecks 0 bytes)
+  reading-checked = ap (λ (r : Reading). r .checked) e
+
+  pub reading-table : r .checked ≡ Passes → r .table ≡ packed (tableOf (recordsOf bytes))
+  reading-table p =
+      ap (λ (r : Reading). r .table) e ∙ ap (unlessRefused (packed (tableOf (recordsOf bytes)))) (sym reading-checked ∙ p)

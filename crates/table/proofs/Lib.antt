@@ -1,8 +1,7 @@
 -- The laws that belong to no one function, each after those it cites.
 pub mod Searches
 pub mod Records
-pub mod Masks
-pub mod Parts
+pub mod OneMore
 pub mod Edges
 pub mod Numbers
 pub mod Unpacked

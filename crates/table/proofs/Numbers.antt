@@ -17,7 +17,7 @@ use Rattle.meaning.specs.Checks.{misnumbered}
 use Rattle.meaning.proofs.Tests.{both, decided, each-same}
 use Rattle.meaning.proofs.Sound.{numbered-at}
 use Rattle.table.proofs.Records.{records-count}
-use Rattle.table.proofs.Parts.{at-last, at-other, ofKind-around, ofKind-this}
+use Rattle.table.proofs.OneMore.{at-last, at-other, ofKind-around, ofKind-this}
 
 -- each state bears its number
 abbrev pub numbered : List Record → Bool

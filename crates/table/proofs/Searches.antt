@@ -13,10 +13,7 @@ use Rattle.meaning.specs.Lists.{each, some, first, place}
 use Rattle.meaning.proofs.Tests.{clash, refuted, each-at, some-at, first-le, first-holds}
 use Rattle.meaning.proofs.Lists.{place-le, place-holds, place-found}
 
--- each and some, one number further
-pub some-more : (n : ℕ) (f : ℕ → Bool) → some n f ≡ false → f n ≡ false → some (n + 1) f ≡ false
-some-more n f before last = rw (add-one n, before) last
-
+-- each, one number further, and each and some at an end
 pub each-more : (n : ℕ) (f : ℕ → Bool) → each n f ≡ true → f n ≡ true → each (n + 1) f ≡ true
 each-more n f before last = rw (add-one n, before) last
 

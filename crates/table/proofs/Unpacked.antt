@@ -13,8 +13,9 @@ use Rattle.meaning.specs.Table as T
 use Rattle.meaning.specs.Table.{bit}
 use Rattle.meaning.proofs.Tests.{both-left, both-right, clash, same-test}
 use Rattle.meaning.proofs.Lists.{tab-at, tab-beyond}
-use Rattle.table.specs.Packed.{mask, marks, targets, edgeIn, tableIn, packed}
-use Rattle.table.proofs.Masks.{bit-beyond, bit-below, bit-none, bit-of-mask}
+use Rattle.masks.specs.Mask.{mask}
+use Rattle.masks.proofs.Masks.{bit-beyond, bit-below, bit-none, bit-of-mask}
+use Rattle.table.specs.Packed.{marks, targets, edgeIn, tableIn, packed}
 use Rattle.table.proofs.Edges.{targets-at, targets-length}
 
 -- 64 bytes of targets have no edge from a ninth state, and none on a ninth letter

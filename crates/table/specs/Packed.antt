@@ -1,13 +1,14 @@
 -- How a record and a table stand in code.
-use mathlib.Core.Bool.{Bool, cond, _&&_}
+use mathlib.Core.Bool.{Bool, _&&_}
 use mathlib.Core.List.{List}
-use Prim.Native.Nat.{ℕ, zero, suc, _+_, _*_, _/_, _%_}
+use Prim.Native.Nat.{ℕ, _+_, _*_, _/_, _%_}
 use lib.ListN.{getD}
 use lib.Dec.{ltb}
 use Rattle.meaning.specs.Lists.{tab}
 use Rattle.meaning.specs.Records as R
 use Rattle.meaning.specs.Table as T
 use Rattle.meaning.specs.Table.{bit}
+use Rattle.masks.specs.Mask.{mask}
 use Rattle.table.specs.declared.record.Record.{Record}
 use Rattle.table.specs.declared.Table.{Table}
 
@@ -33,11 +34,6 @@ tableIn t =
       outputEdge = edgeIn (t .«output_targets»);
       inputEdge = edgeIn (t .«input_targets»);
     }
-
--- the number whose bit q, below n, is set where f holds of q
-unfoldable pub mask : ℕ → (ℕ → Bool) → ℕ
-mask zero f = 0
-mask (suc n) f = mask n (λ q. f (suc q)) * 2 + cond (f zero) 1 0
 
 -- one number a state
 unfoldable pub marks : (ℕ → ℕ) → List ℕ

@@ -1,50 +1,81 @@
 // Checks 4 to 10, each over the whole table, in their order.
 use crate::Checked;
+use crate::Reading;
 use crate::Table;
-use crate::mask;
 use crate::read;
 use crate::record;
 use crate::record::Record;
 use meaning::Refusal;
 ghost use mathlib.Core.Path.{_≡_};
+ghost use mathlib.Core.List.{[]};
 ghost use Rattle.meaning.specs.Lists.{place, each, some};
 ghost use Rattle.meaning.specs.Records.{recordsOf, ofKind, outside};
-ghost use Rattle.meaning.specs.Checks.{tableChecks, wrongLength, descent, misnumbered as misnumberedStates, noStart, dangling as danglingEdge, gap as gapOf};
-ghost use Rattle.table.specs.Packed.{recordIn, tableIn, edgeIn};
-ghost use Rattle.table.specs.Checked.{checkedOf};
+ghost use Rattle.meaning.specs.Table.{tableOf};
+ghost use Rattle.meaning.specs.Checks.{wrongLength, descent, misnumbered as misnumberedStates, noStart, dangling as danglingEdge, gap as gapOf};
+ghost use Rattle.table.specs.Packed.{recordIn, tableIn, packed, edgeIn};
+ghost use Rattle.table.specs.declared.Checked.the-variants.{Fails};
+ghost use Rattle.table.specs.Checked.{reading, readingOf};
 
-// The first check that fails and its place: the record number, from 0, for 5, 6 and 9, and
-// otherwise 0.
-pub fn check(bytes: &[u8]) -> Checked
-    ensures { λ r. ⌜ r ≡ checkedOf (tableChecks 0 (now (bytes .entry))) ⌝ }
+// The table, or the first check that fails and its place: the record number, from 0, for 5, 6 and
+// 9, and otherwise 0.
+pub fn check(bytes: &[u8]) -> Reading
+    ensures { λ r. ⌜ r ≡ readingOf (now (bytes .entry)) ⌝ }
 {
     let records = bytes.len() / 4;
     if wrong_length(bytes) {
-        return Checked::Fails(Refusal::Length, 0);
+        return refused(Refusal::Length, 0);
     }
     let bad = first_outside(bytes);
     let late = first_descent(bytes);
     if bad < records {
-        return Checked::Fails(Refusal::Record, bad);
+        return refused(Refusal::Record, bad);
     }
     if late < records {
-        return Checked::Fails(Refusal::Order, late);
+        return refused(Refusal::Order, late);
     }
     if misnumbered(bytes, record::CONTROLLER) || misnumbered(bytes, record::WORLD) {
-        return Checked::Fails(Refusal::States, 0);
+        return refused(Refusal::States, 0);
     }
     let table = read::read(bytes);
     if no_start(table) {
-        return Checked::Fails(Refusal::Start, 0);
+        return refused(Refusal::Start, 0);
     }
     let stray = first_dangling(bytes, table);
     if stray < records {
-        return Checked::Fails(Refusal::Edge, stray);
+        return refused(Refusal::Edge, stray);
     }
     if gap(table) {
-        return Checked::Fails(Refusal::Gap, 0);
+        return refused(Refusal::Gap, 0);
     }
-    Checked::Passes
+    Reading {
+        checked: Checked::Passes,
+        table,
+    }
+}
+
+// A refusal and its place, and no table.
+fn refused(refusal: Refusal, place: usize) -> Reading
+    ensures { λ r. ⌜ r ≡ reading (packed (tableOf [])) (Fails refusal place) ⌝ }
+{
+    let controller_marks = [0u8; 8];
+    let world_marks = [0u8; 8];
+    let output_targets = [0u8; 64];
+    let input_targets = [0u8; 64];
+    let table = Table {
+        controllers: 0,
+        worlds: 0,
+        outputs: 0,
+        inputs: 0,
+        starts: 0,
+        controller_marks,
+        world_marks,
+        output_targets,
+        input_targets,
+    };
+    Reading {
+        checked: Checked::Fails(refusal, place),
+        table,
+    }
 }
 
 // 4: a table of 0 bytes, not a multiple of 4, or over 4,160.
@@ -108,7 +139,7 @@ fn misnumbered(bytes: &[u8], kind: u8) -> bool
 fn no_start(table: Table) -> bool
     ensures { λ r. ⌜ r ≡ noStart (tableIn table) ⌝ }
 {
-    !mask::has_any(table.starts, table.controllers)
+    !masks::has_any(table.starts, table.controllers)
 }
 
 // 9: the first edge that names a state without a record, or the number of records.
@@ -176,7 +207,7 @@ fn total_on(targets: [u8; 64], letter: usize, sources: usize, reached: usize) ->
 {
     let mut p = 0;
     while p < sources {
-        if !leads(targets, letter, p, reached) {
+        if !has_edge(targets, letter, p, reached) {
             return false;
         }
         p += 1;
@@ -185,7 +216,7 @@ fn total_on(targets: [u8; 64], letter: usize, sources: usize, reached: usize) ->
 }
 
 // Whether a state has an edge for one letter.
-fn leads(targets: [u8; 64], letter: usize, p: usize, reached: usize) -> bool
+fn has_edge(targets: [u8; 64], letter: usize, p: usize, reached: usize) -> bool
     ensures { λ r. ⌜ r ≡ some reached (λ q. edgeIn targets letter p q) ⌝ }
 {
     if 8 <= letter {
@@ -194,5 +225,5 @@ fn leads(targets: [u8; 64], letter: usize, p: usize, reached: usize) -> bool
     if 8 <= p {
         return false;
     }
-    mask::has_any(targets[letter * 8 + p], reached)
+    masks::has_any(targets[letter * 8 + p], reached)
 }

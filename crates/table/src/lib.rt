@@ -1,6 +1,5 @@
 // From a table's bytes to a refusal with its place, or to the table in masks and marks.
 pub mod checks;
-pub mod mask;
 pub mod read;
 pub mod record;
 
@@ -25,4 +24,10 @@ pub struct Table {
 pub enum Checked {
     Passes,
     Fails(Refusal, usize),
+}
+
+// A table's bytes, checked and read in one go: the table is there if they pass, and else none.
+pub struct Reading {
+    pub checked: Checked,
+    pub table: Table,
 }

@@ -1,6 +1,5 @@
 // The table that the records state: each part of it is one pass over the records.
 use crate::Table;
-use crate::mask;
 use crate::record;
 use crate::record::Record;
 ghost use mathlib.Core.Path.{_≡_};
@@ -9,7 +8,8 @@ ghost use lib.ListN.{length};
 ghost use lib.Dec.{eqb, ltb};
 ghost use Rattle.meaning.specs.Records.{recordsOf, ofKind};
 ghost use Rattle.meaning.specs.Table.{tableOf, letters as lettersOf, markOf, startOf, edgeOf};
-ghost use Rattle.table.specs.Packed.{packed, mask, marks as marksOf, targets as targetsOf};
+ghost use Rattle.masks.specs.Mask.{mask};
+ghost use Rattle.table.specs.Packed.{packed, marks as marksOf, targets as targetsOf};
 
 // The table of the bytes, whatever they are: states and letters past the eighth are left out.
 pub fn read(bytes: &[u8]) -> Table
@@ -54,7 +54,7 @@ fn states(bytes: &[u8], kind: u8) -> usize
 }
 
 // One more than the largest letter of a kind, or 0.
-fn letters(bytes: &[u8], kind: u8) -> usize
+pub fn letters(bytes: &[u8], kind: u8) -> usize
     ensures { λ r. ⌜ r ≡ lettersOf kind (recordsOf (now (bytes .entry))) ⌝ }
 {
     let mut count = 0;
@@ -83,7 +83,7 @@ fn starts(bytes: &[u8]) -> u8
         let r = record::at(bytes, i);
         if r.kind == record::CONTROLLER {
             if r.letter / 2 == 1 {
-                set = mask::with_state(set, q);
+                set = masks::with_state(set, q);
             }
             q += 1;
         }
@@ -122,7 +122,7 @@ fn targets(bytes: &[u8], kind: u8) -> [u8; 64]
         let r = record::at(bytes, i);
         if is_edge(r, kind) {
             let k = (r.letter * 8 + r.from) as usize;
-            masks[k] = mask::with_state(masks[k], r.to as usize);
+            masks[k] = masks::with_state(masks[k], r.to as usize);
         }
         i += 1;
     }

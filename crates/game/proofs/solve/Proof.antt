@@ -12,7 +12,7 @@ use Rattle.meaning.specs.Checks.{judge, room, tableChecks, stageChecks, Passes}
 use Rattle.meaning.proofs.Rounds.{allSafe-first}
 use Rattle.meaning.specs.Table.{stated}
 use Rattle.table.specs.Packed.{tableIn}
-use Rattle.table.proofs.Judged.{passes-none-fails}
+use Rattle.table.proofs.Judged.{passes-none-fails, reading-checked, reading-table}
 use Rattle.table.proofs.Good.{good-table}
 use Rattle.game.specs.Rounds.{Settles}
 use Rattle.game.proofs.Settled.{after-settled}
@@ -31,8 +31,9 @@ room-passes c = sym (c .before .small-room .ensures) ∙ c .if2 .left
 -- 4 to 10 pass
 table-passes : (c : tie.After-enum-told) → Passes (tableChecks 0 (now (c .before .before .before .before .before .before .before .before .before .args .table)))
 table-passes c =
-    passes-none-fails 0 (now (c .before .before .before .before .before .before .before .before .before .args .table))
-    (sym (c .before .before .check .ensures) ∙ c .enum-told .given .1)
+    let bytes = now (c .before .before .before .before .before .before .before .before .before .args .table) in
+    passes-none-fails 0 bytes
+    (sym (reading-checked bytes (c .before .before .check .ensures)) ∙ c .enum-told .given .1)
 
 -- so 11 and 12 are left to judge
 stage-left : (c : tie.After-enum-told) →
@@ -49,17 +50,20 @@ stage-left c =
     (room-passes passed) (table-passes c))
 
 -- the table that was read
-same-table : (c : tie.After-read) → tableIn (c .read .result) ≡ stated (now (c .before .before .before .before .before .before .before .before .before .before .args .table))
+same-table : (c : tie.After-enum-told) →
+    tableIn (c .before .before .check .result .table) ≡ stated (now (c .before .before .before .before .before .before .before .before .before .args .table))
 same-table c =
-    good-table 0 (now (c .before .before .before .before .before .before .before .before .before .before .args .table)) (c .read .result) (c .read .ensures)
-    (table-passes (c .before))
+    let bytes = now (c .before .before .before .before .before .before .before .before .before .args .table) in
+    let reading = c .before .before .check in
+    good-table 0 bytes (reading .result .table)
+    (reading-table bytes (reading .ensures) (c .enum-told .given .1)) (table-passes c)
 
 -- its rounds settle
 stage-settles : (c : tie.After-settle-all) →
     let given = c .before .before .before .before .before .before .before .before .before .before .before .before .args in
     let t = stated (now (given .table)) in
     Settles (given .k) t (allSafe (given .k) (t .controllers)) (given .room) (c .settle-all .last .1 .1 .1 .0) (c .settle-all .result)
-stage-settles c = rw (same-table (c .before .before)) at (c .settle-all .ensures)
+stage-settles c = rw (same-table (c .before .before .before)) at (c .settle-all .ensures)
 
 refused-requires : tie.Need-refused-requires
 refused-requires c κs = search needs
@@ -98,13 +102,10 @@ returns-3 c =
     let passed = called .before in
     let given = passed .before .before .before .before .before .before .args in
     solve-table (now (given .table)) (given .k) (given .room) (now (given .winners)) (now (given .controller)) (passed .before .before .if1 .left)
-    (room-passes passed) (sym (called .check .ensures) ∙ c .before .before .checked .given .1) (c .refused3 .ensures)
+    (room-passes passed) (sym (reading-checked (now (given .table)) (called .check .ensures)) ∙ c .before .before .checked .given .1) (c .refused3 .ensures)
 
 enum-told : tie.Need-enum-told
 enum-told c = search needs
-
-read-requires : tie.Need-read-requires
-read-requires c κs = search needs
 
 slice-aggregate-settle-all : tie.Need-slice-aggregate-settle-all
 slice-aggregate-settle-all c = search needs
@@ -116,7 +117,7 @@ settle-all-requires c κs =
     let given = passed .before .before .before .before .before .before .args in
     let fit = passes-fit 0 (now (given .table)) (table-passes told) in
     let within = room-within (given .room) (now (given .winners)) (now (given .controller)) (room-passes passed) in
-    (passed .before .before .if1 .left, within .0, within .1, within .1, rw (same-table (c .before)) (fit .small), rw (same-table (c .before)) (fit .good .some-output))
+    (passed .before .before .if1 .left, within .0, within .1, within .1, rw (same-table told) (fit .small), rw (same-table told) (fit .good .some-output))
 
 enum-known-settled : tie.Need-enum-known-settled
 enum-known-settled c = search needs
@@ -150,7 +151,7 @@ finish-requires c κs =
     let within = room-within (given .room) (now (given .winners)) (now (given .controller)) (room-passes passed) in
     let first = allSafe-first (given .k) t in (
       omega (arith, after-settled (stage-settles called) (settled .settled .given .1) .4, within .1, called .settle-all .kept .1 .1 .1 .0),
-      rw (same-table (called .before .before)) (settled-playable (stage-settles called) (settled .settled .given .1) first fit (passed .before .before .if1 .left) (within .1)),
+      rw (same-table told) (settled-playable (stage-settles called) (settled .settled .given .1) first fit (passed .before .before .if1 .left) (within .1)),
       settled-roomy (stage-settles called) (settled .settled .given .1) first fit (now (given .winners)) (now (given .controller)) (room-passes passed),
     )
 
@@ -170,7 +171,7 @@ returns-5 c =
     let given = passed .before .before .before .before .before .before .args in
     let t = stated (now (given .table)) in
     let fit = passes-fit 0 (now (given .table)) (table-passes told) in
-    (rw (same-table (called .before .before)) at (finished .finish .ensures))
+    (rw (same-table told) at (finished .finish .ensures))
     ∙ settled-finished (stage-settles called) (settled .settled .given .1) (allSafe-first (given .k) t) (fit .small) 0 (now (given .winners)) (now (given .controller))
     ∙ sym (stage-left told)
 
@@ -188,7 +189,6 @@ solve-spec =
     refused-requires-3
     returns-3
     enum-told
-    read-requires
     slice-aggregate-settle-all
     settle-all-requires
     enum-known-settled

@@ -14,7 +14,7 @@ use Rattle.meaning.specs.Records.{Record, recordsOf, ofKind}
 use Rattle.meaning.specs.Checks.{misnumbered}
 use Rattle.table.specs.Packed.{recordIn}
 use Rattle.table.proofs.Records.{next-record, all-records}
-use Rattle.table.proofs.Parts.{ofKind-few, ofKind-other, states-this}
+use Rattle.table.proofs.OneMore.{ofKind-few, ofKind-other, states-this}
 use Rattle.table.proofs.Numbers.{numbered, numbered-this, misnumbered-here, misnumbered-nowhere}
 use Rattle.table.proofs.checks.misnumbered.Statement.{statement}
 use Rattle.table.proofs.checks.misnumbered.Tie as tie

@@ -21,15 +21,15 @@ abbrev μ-loop : tie.MeasureT-loop
 loop-holds : tie.Need-loop-holds Inv-loop μ-loop
 loop-holds c = search needs
 
-leads-requires : tie.Need-leads-requires Inv-loop μ-loop
-leads-requires c κs = search needs
+has-edge-requires : tie.Need-has-edge-requires Inv-loop μ-loop
+has-edge-requires c κs = search needs
 
 returns : tie.Need-returns Inv-loop μ-loop
 returns c =
     let turn = c .before .before in
     let args = turn .before .before .args in
     sym (each-fails (args .sources) (λ (p : ℕ). some (args .reached) (λ q. edgeIn (args .targets) (args .letter) p q)) (turn .before .loop .p) (turn .loop-test .taken)
-    (sym (c .before .leads .ensures) ∙ not-true _ (c .if1 .taken)))
+    (sym (c .before .has-edge .ensures) ∙ not-true _ (c .if1 .taken)))
 
 add-p : tie.Need-add-p Inv-loop μ-loop
 add-p c = search needs
@@ -43,7 +43,7 @@ loop-again c =
     let args = turn .before .before .args in (
       search needs,
       each-more (turn .before .loop .p) (λ (p : ℕ). some (args .reached) (λ q. edgeIn (args .targets) (args .letter) p q)) (turn .before .loop .inv .1)
-          (sym (c .before .leads .ensures) ∙ not-false _ (c .if1 .left)),
+          (sym (c .before .has-edge .ensures) ∙ not-false _ (c .if1 .left)),
     )
 
 returns-2 : tie.Need-returns-2 Inv-loop μ-loop
@@ -59,7 +59,7 @@ total-on-spec =
     Inv-loop
     μ-loop
     loop-holds
-    leads-requires
+    has-edge-requires
     returns
     add-p
     loop-less

@@ -12,7 +12,7 @@ use Rattle.meaning.specs.Records.{Record, recordsOf, ofKind}
 use Rattle.meaning.specs.Table.{letters}
 use Rattle.table.specs.Packed.{recordIn}
 use Rattle.table.proofs.Records.{next-record, all-records}
-use Rattle.table.proofs.Parts.{letters-this, letters-other}
+use Rattle.table.proofs.OneMore.{letters-this, letters-other}
 use Rattle.table.proofs.read.letters.Statement.{statement}
 use Rattle.table.proofs.read.letters.Tie as tie
 

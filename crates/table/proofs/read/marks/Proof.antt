@@ -12,7 +12,7 @@ use Rattle.meaning.specs.Records.{Record, recordsOf, ofKind}
 use Rattle.meaning.specs.Table.{markOf}
 use Rattle.table.specs.Packed.{recordIn, marks as marks′}
 use Rattle.table.proofs.Records.{next-record, all-records}
-use Rattle.table.proofs.Parts.{ofKind-few, ofKind-other, states-this, marks-this, marks-full, marks-other}
+use Rattle.table.proofs.OneMore.{ofKind-few, ofKind-other, states-this, marks-this, marks-full, marks-other}
 use Rattle.table.proofs.read.marks.Statement.{statement}
 use Rattle.table.proofs.read.marks.Tie as tie
 

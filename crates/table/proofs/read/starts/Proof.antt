@@ -12,9 +12,10 @@ use lib.Dec.{eqb}
 use lib.ListN.{length, take}
 use Rattle.meaning.specs.Records.{Record, recordsOf, ofKind, controller}
 use Rattle.meaning.specs.Table.{startOf, bit}
-use Rattle.table.specs.Packed.{recordIn, mask}
+use Rattle.masks.specs.Mask.{mask}
+use Rattle.table.specs.Packed.{recordIn}
 use Rattle.table.proofs.Records.{next-record, all-records}
-use Rattle.table.proofs.Parts.{ofKind-few, ofKind-other, states-this, starts-this, starts-none, starts-other}
+use Rattle.table.proofs.OneMore.{ofKind-few, ofKind-other, states-this, starts-this, starts-none, starts-other}
 use Rattle.table.proofs.read.starts.Statement.{statement}
 use Rattle.table.proofs.read.starts.Tie as tie
 

@@ -11,7 +11,7 @@ use lib.ListN.{length, take}
 use Rattle.meaning.specs.Records.{Record, recordsOf, ofKind}
 use Rattle.table.specs.Packed.{recordIn}
 use Rattle.table.proofs.Records.{next-record, all-records}
-use Rattle.table.proofs.Parts.{ofKind-few, ofKind-other, states-this}
+use Rattle.table.proofs.OneMore.{ofKind-few, ofKind-other, states-this}
 use Rattle.table.proofs.read.states.Statement.{statement}
 use Rattle.table.proofs.read.states.Tie as tie
 

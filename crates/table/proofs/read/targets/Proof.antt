@@ -12,7 +12,8 @@ use lib.Dec.{eqb}
 use lib.ListN.{length, take, set, getD}
 use Rattle.meaning.specs.Records.{Record, recordsOf}
 use Rattle.meaning.specs.Table.{edgeOf, bit}
-use Rattle.table.specs.Packed.{recordIn, mask, targets as targetsOf}
+use Rattle.masks.specs.Mask.{mask}
+use Rattle.table.specs.Packed.{recordIn, targets as targetsOf}
 use Rattle.table.proofs.Records.{next-record, all-records}
 use Rattle.table.proofs.Edges.{isEdge, edge-from, edge-letter, targets-this, targets-other}
 use Rattle.table.proofs.read.targets.Statement.{statement}

@@ -17,8 +17,9 @@ use Rattle.meaning.specs.Table.{letters, markOf, startOf, bit}
 use Rattle.meaning.proofs.Tests.{largest-same}
 use Rattle.meaning.proofs.Lists.{keep-append, tab-length, tab-at, tab-same}
 use Rattle.meaning.proofs.Sizes.{keep-length}
-use Rattle.table.specs.Packed.{mask, marks}
-use Rattle.table.proofs.Masks.{mask-same, bit-of-mask}
+use Rattle.masks.specs.Mask.{mask}
+use Rattle.masks.proofs.Masks.{mask-same, bit-of-mask}
+use Rattle.table.specs.Packed.{marks}
 
 -- what holds at one place, and at every other
 at-each : (P : ℕ → Type 0) (k : ℕ) → P k → ((j : ℕ) → (j ≡ k → ⊥) → P j) → (j : ℕ) → P j

@@ -1,4 +1,4 @@
--- `leads` looks into the one byte of the letter and the state; there is none for a ninth letter or state. Assumes nothing.
+-- `has_edge` looks into the one byte of the letter and the state; there is none for a ninth letter or state. Assumes nothing.
 use mathlib.Core.Path.{sym, ap, _∙_}
 use mathlib.Core.Bool.{Bool, _&&_}
 use Prim.Native.Nat.{_+_, _*_}
@@ -10,8 +10,8 @@ use Rattle.meaning.proofs.Tests.{some-same}
 use Rattle.table.specs.Packed.{edgeIn}
 use Rattle.table.proofs.Searches.{some-none}
 use Rattle.table.proofs.Unpacked.{no-ninth-state, no-ninth-letter}
-use Rattle.table.proofs.checks.leads.Statement.{statement}
-use Rattle.table.proofs.checks.leads.Tie as tie
+use Rattle.table.proofs.checks.has_edge.Statement.{statement}
+use Rattle.table.proofs.checks.has_edge.Tie as tie
 
 returns : tie.Need-returns
 returns c =
@@ -45,8 +45,8 @@ returns-3 c =
     ∙ some-same (args .reached) (bit m) (edgeIn (args .t1) (args .letter) (args .p))
     (λ q _. ap (λ (b : Bool). b && bit m q) (sym (lt-ltb (args .p) 8 (c .before .if2 .left))))
 
-pub leads-spec : {M : Type 1} → statement M
-leads-spec =
+pub has-edge-spec : {M : Type 1} → statement M
+has-edge-spec =
     tie.close
     (tie.spec
     returns

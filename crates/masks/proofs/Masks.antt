@@ -10,7 +10,7 @@ use lib.Bits.{bitOr, or-step, or-zero-r}
 use borrow.Author.Tests.{ltb-true, lt-ltb, le-ltb, eq-eqb, ne-eqb, eqb-true, eqb-false}
 use Rattle.meaning.specs.Table.{bit}
 use Rattle.meaning.proofs.Tests.{both-left}
-use Rattle.table.specs.Packed.{mask}
+use Rattle.masks.specs.Mask.{mask}
 
 -- binary digit q of a number
 abbrev pub digit : ℕ → ℕ → Bool

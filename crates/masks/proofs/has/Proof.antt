@@ -4,9 +4,9 @@ use Prim.Native.Nat.{ℕ, _/_, _^_}
 use borrow.Author.Needs.{needs}
 use lib.Dec.{eqb}
 use lib.Bits.{and-mask}
-use Rattle.table.proofs.Masks.{bit-digit, bit-beyond}
-use Rattle.table.proofs.mask.has.Statement.{statement}
-use Rattle.table.proofs.mask.has.Tie as tie
+use Rattle.masks.proofs.Masks.{bit-digit, bit-beyond}
+use Rattle.masks.proofs.has.Statement.{statement}
+use Rattle.masks.proofs.has.Tie as tie
 
 returns : tie.Need-returns
 returns c = sym (bit-beyond (c .before .args .mask) (c .before .args .q) (c .if1 .taken))

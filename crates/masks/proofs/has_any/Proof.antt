@@ -3,14 +3,14 @@
 use mathlib.Core.Path.{_≡_, sym, _∙_, subst}
 use mathlib.Core.Bool.{false}
 use Prim.Native.Nat.{ℕ, _-_, _≤_}
+use native.Mathlib.Numerals.{add-one}
 use native.Mathlib.Omega.{arith}
 use borrow.Author.Needs.{needs}
 use Rattle.meaning.specs.Lists.{some}
 use Rattle.meaning.specs.Table.{bit}
 use Rattle.meaning.proofs.Tests.{some-of}
-use Rattle.table.proofs.Searches.{some-more}
-use Rattle.table.proofs.mask.has_any.Statement.{statement}
-use Rattle.table.proofs.mask.has_any.Tie as tie
+use Rattle.masks.proofs.has_any.Statement.{statement}
+use Rattle.masks.proofs.has_any.Tie as tie
 
 abbrev Inv-loop : tie.InvT-loop
 Inv-loop mask n q₀ q = (q ≤ n) × (some q (bit mask) ≡ false)
@@ -40,7 +40,7 @@ loop-again : tie.Need-loop-again Inv-loop μ-loop
 loop-again c =
     let turn = c .before .before in
     let m = turn .before .before .args .mask in
-    (search needs, some-more (turn .before .loop .q) (bit m) (turn .before .loop .inv .1) (sym (c .before .has .ensures) ∙ c .if1 .left))
+    (search needs, rw (add-one (turn .before .loop .q), turn .before .loop .inv .1) (sym (c .before .has .ensures) ∙ c .if1 .left))
 
 returns-2 : tie.Need-returns-2 Inv-loop μ-loop
 returns-2 c =

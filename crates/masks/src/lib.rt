@@ -1,10 +1,10 @@
-// Eight bits, one for each state.
+// Eight bits, one for each state: the one test of one bit, and a bit set.
 ghost use mathlib.Core.Path.{_≡_};
 ghost use mathlib.Core.Bool.{_||_};
 ghost use lib.Dec.{eqb};
 ghost use Rattle.meaning.specs.Lists.{some};
 ghost use Rattle.meaning.specs.Table.{bit};
-ghost use Rattle.table.specs.Packed.{mask as maskOf};
+ghost use Rattle.masks.specs.Mask.{mask as maskOf};
 
 // Whether a mask has a state.
 pub fn has(mask: u8, q: usize) -> bool

@@ -6,9 +6,9 @@ use native.Mathlib.Omega.{arith}
 use lib.Bits.{bitOr}
 use lib.Pow.{pow-lt}
 use borrow.Author.Needs.{needs}
-use Rattle.table.proofs.Masks.{set-bit, set-beyond}
-use Rattle.table.proofs.mask.with_state.Statement.{statement}
-use Rattle.table.proofs.mask.with_state.Tie as tie
+use Rattle.masks.proofs.Masks.{set-bit, set-beyond}
+use Rattle.masks.proofs.with_state.Statement.{statement}
+use Rattle.masks.proofs.with_state.Tie as tie
 
 returns : tie.Need-returns
 returns c = set-beyond (c .before .args .mask) (c .before .args .q) (omega arith) (c .if1 .taken)
