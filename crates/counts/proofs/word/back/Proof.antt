@@ -1,6 +1,6 @@
--- `back`: the loop's invariant is that the counts of `low` are the least of the most and of what the targets before q leave. A turn takes the lesser of
--- them and of the target's count less its mark, in every byte, under its bar; beyond the side nothing is left. At 8 that is the step back, since no mask
--- has a target from 8 on. The measure is the number of targets left. Assumes nothing.
+-- `back`: the loop's invariant is that the counts of `low` are the least of the most and of what the targets before q leave. A turn takes
+-- the lesser of them and of the target's count less its mark, in every byte, under its bar; beyond the side nothing is left. At 8 that is the
+-- step back under the most, since no mask has a target from 8 on. The measure is the number of targets left. Assumes nothing.
 use mathlib.Core.Path.{_≡_, refl, ap, _∙_}
 use mathlib.Core.Logic.{⊎-elim}
 use Prim.Native.Nat.{_≤_, _-_, min}
@@ -83,11 +83,11 @@ loop-again c =
     )
 
 returns : tie.Need-returns Inv-loop μ-loop
-returns c K small full =
+returns c =
     let at = c .before in
     let given = at .before .args in
     let whole : at .loop .q ≡ 8 = omega arith in
-    lowered-whole (given .t2) (given .m .now) K small (given .most) (at .loop .low) full (rw whole at (at .loop .inv .1))
+    lowered-whole (given .t2) (given .m .now) (given .most) (at .loop .low) (rw whole at (at .loop .inv .1))
 
 pub back-spec : {M : Type 1} → statement M
 back-spec =
