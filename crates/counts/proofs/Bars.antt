@@ -1,12 +1,11 @@
--- The bars of a step back. The or of two words has the or of their counts (`or-counts`), by induction on the bytes. So a bar, or'ed with a word that has one
--- count in every byte, leaves that count to the sources with an edge and the highest to the others; and the least of these over the targets, from the most
--- that is safe, is the step back (`lowered-whole`), count by count. Assumes nothing.
+-- The bars of a step back. The or of two words has the or of their counts (`or-counts`), by induction on the bytes. So a bar, or'ed with a
+-- word that has one count in every byte, leaves that count to the sources with an edge and the highest to the others; and the least of these
+-- over the targets is the step back under the most (`lowered-whole`), count by count. Assumes nothing.
 use mathlib.Core.Path.{_≡_, refl, sym, ap, _∙_}
 use mathlib.Core.Bool.{Bool, true, false, cond}
 use mathlib.Core.List.{List, [], _∷_}
 use Prim.Native.Nat.{ℕ, zero, suc, _+_, _*_, _-_, _/_, _%_, _^_, _≤_, _<_, min}
 use native.Mathlib.Nat.{le-refl}
-use native.Mathlib.Decide.{decLt}
 use native.Mathlib.Numerals.{add-one}
 use native.Mathlib.Omega.{arith}
 use borrow.Author.Tests.{lt-ltb, le-ltb}
@@ -16,20 +15,17 @@ use lib.IntN.{ℤ}
 use lib.ListN.{length, getD}
 use Rattle.meaning.specs.Lists.{tab, smallest}
 use Rattle.meaning.specs.Table.{bit}
-use Rattle.meaning.specs.Counting.{Position, count, back}
-use Rattle.meaning.specs.Written.{positionBytes}
+use Rattle.meaning.specs.Counting.{Position, count}
 use Rattle.meaning.proofs.Tests.{smallest-top}
-use Rattle.meaning.proofs.Lists.{tab-length, tab-at, tab-beyond}
-use Rattle.meaning.proofs.Steps.{same-counts, leaves, back-at}
-use Rattle.counts.specs.Cells.{cell, cells, lesserCounts, halfOf}
+use Rattle.meaning.proofs.Lists.{tab-length, tab-at}
+use Rattle.meaning.proofs.Steps.{same-counts}
+use Rattle.counts.specs.Cells.{cell, cells, lesserCounts, halfOf, backUnder}
 use Rattle.counts.specs.declared.position.Half.{Half}
 use Rattle.counts.proofs.Cells.{cells-at}
 use Rattle.counts.proofs.Edges.{bit-tested, bit-beyond, within, smallest-next, smallest-within}
-use Rattle.counts.proofs.Halves.{back-none}
-use Rattle.counts.proofs.Wide.{wide-length, wide-at}
 use Rattle.counts.specs.Words.{countsBefore, countsIn, barCounts}
 use Rattle.counts.proofs.Lesser.{lesser-at}
-use Rattle.counts.proofs.Bytes.{countsIn-length, bytes, Packed, packed-none, packed-next, packed-whole}
+use Rattle.counts.proofs.Bytes.{countsIn-length, countsIn-low, bytes, Packed, packed-none, packed-next, packed-whole}
 
 -- an or of two numbers is the or of their counts
 or-before : (n a b : ℕ) (F G H : Position) → ((p : ℕ) → count H p ≡ bitOr (count F p) (count G p))
@@ -107,6 +103,10 @@ offered-counts half m word e p q bar count-is l =
     let at : count (countsIn word) p ≡ barred (half .masks) q p = ap (λ (F : Position). count F p) bar ∙ bar-at (half .masks) q p l in
     or-counts word (e * ones) p ∙ rw (at, all-counts e p under l) (over-bar (bit (getD (half .masks) p 0) q) e under ∙ rw count-is)
 
+-- and what it leaves under a count, beside the count itself
+abbrev leftTo : Half → List ℤ → ℕ → ℕ → ℕ → ℕ
+leftTo half m p top q = cond (bit (getD (half .masks) p 0) q) (count (cells m) q - getD (half .marks) q 0) top
+
 -- a word whose counts are the least of the most and of what the targets before q leave
 abbrev pub Lowered : Half → List ℤ → ℕ → ℕ → ℕ → Type 0
 Lowered half m most q low =
@@ -140,34 +140,22 @@ either-alike : (b : Bool) (top x y z w : ℕ) → min top x ≡ min top y → mi
 either-alike true top x y z w h k = h
 either-alike false top x y z w h k = k
 
--- what all eight targets leave to the sources, from the most that is safe, is the step back
-module _ (half : Half) (m : List ℤ) (K : ℕ) (small : K ≤ 7) where
-  offered-least : (p : ℕ) → p < half .sources
-      → smallest (K + 1) 8 (within (half .targets) (K + 1) (offered half m p)) ≡ count (back K (halfOf half) (cells m)) p
-  unfolding halfOf
-  offered-least p l =
-      let left = leaves K (halfOf half) (cells m) p in
-      smallest-alike (K + 1) 8 (within (half .targets) (K + 1) (offered half m p)) (within (half .targets) (K + 1) left)
-      (λ q b. either-alike (ltb q (half .targets)) (K + 1) _ _ (K + 1) (K + 1)
-      (either-alike (bit (getD (half .masks) p 0) q) (K + 1) _ _ 127 (K + 1) (rw (cells-at m q b) (omega arith)) (omega arith)) refl)
-      ∙ smallest-within 8 (half .targets) left (K + 1) (λ q b. rw (bit-beyond (getD (half .masks) p 0) q b))
-      ∙ sym (back-at K (halfOf half) (cells m) p l)
+-- what all eight targets leave to the sources, under the most, is the step back under it
+module _ (half : Half) (m : List ℤ) where
+  offered-least : (p top : ℕ) → top ≤ 127
+      → smallest top 8 (within (half .targets) top (offered half m p)) ≡ smallest top (half .targets) (leftTo half m p top)
+  offered-least p top low =
+      smallest-alike top 8 (within (half .targets) top (offered half m p)) (within (half .targets) top (leftTo half m p top))
+      (λ q b. either-alike (ltb q (half .targets)) top _ _ top top
+      (either-alike (bit (getD (half .masks) p 0) q) top _ _ 127 top (rw (cells-at m q b) (omega arith)) (omega arith)) refl)
+      ∙ smallest-within 8 (half .targets) (leftTo half m p top) top (λ q b. rw (bit-beyond (getD (half .masks) p 0) q b))
 
-  pub lowered-whole : (most low : ℕ) → countsIn most ≡ positionBytes (tab (halfOf half .sources) (λ _. K + 1)) → Lowered half m most 8 low
-      → countsIn low ≡ positionBytes (back K (halfOf half) (cells m))
-  unfolding halfOf
-  lowered-whole most low full least =
-      let new = back K (halfOf half) (cells m) in
-      same-counts (countsIn low) (positionBytes new) (countsIn-length low ∙ sym (wide-length new))
+  pub lowered-whole : (most low : ℕ) → Lowered half m most 8 low → countsIn low ≡ backUnder (countsIn most) (halfOf half) (cells m)
+  unfolding halfOf backUnder
+  lowered-whole most low least =
+      let back : ℕ → ℕ = λ p. smallest (count (countsIn most) p) (half .targets) (leftTo half m p (count (countsIn most) p)) in
+      let long : length (tab (length (countsIn most)) back) ≡ 8 = tab-length (length (countsIn most)) back ∙ countsIn-length most in
+      same-counts (countsIn low) (tab (length (countsIn most)) back) (countsIn-length low ∙ sym long)
       (λ p b. let l : p < 8 = rw (countsIn-length low) at b in
-      least p l ∙ go p (decLt p (half .sources)) (ap (λ (F : Position). count F p) full ∙ wide-at (tab (half .sources) (λ _. K + 1)) p l)
-      ∙ sym (wide-at new p l))
-    where
-      go : (p : ℕ) → Dec (p < half .sources) → count (countsIn most) p ≡ count (tab (half .sources) (λ _. K + 1)) p
-          → smallest (count (countsIn most) p) 8 (within (half .targets) (count (countsIn most) p) (offered half m p))
-          ≡ count (back K (halfOf half) (cells m)) p
-      go p (yes l) e = rw (e, tab-at (half .sources) (λ _. K + 1) p 0 l) (offered-least p l)
-      go p (no l) e =
-          let none : half .sources ≤ p = omega arith in
-          rw (e, tab-beyond (half .sources) (λ _. K + 1) p 0 none)
-          (omega (arith, smallest-top 0 8 (within (half .targets) 0 (offered half m p)), back-none K half m p none))
+      least p l ∙ offered-least p (count (countsIn most) p) (countsIn-low most p)
+      ∙ sym (tab-at (length (countsIn most)) back p 0 (rw (countsIn-length most) l)))

@@ -33,6 +33,20 @@ pub countsIn-length : (w : ℕ) → length (countsIn w) ≡ 8
 unfolding countsIn
 countsIn-length w = countsBefore-length 8 w []
 
+-- each at most 127
+countsBefore-low : (n w : ℕ) (rest : Position) → ((p : ℕ) → count rest p ≤ 127) → (p : ℕ) → count (countsBefore n w rest) p ≤ 127
+unfolding countsBefore
+countsBefore-low zero w rest low = low
+countsBefore-low (suc n) w rest low = countsBefore-low n (w / 256) (w % 128 ∷ rest) go
+  where
+    go : (p : ℕ) → count (w % 128 ∷ rest) p ≤ 127
+    go zero = omega arith
+    go (suc p) = low p
+
+pub countsIn-low : (w p : ℕ) → count (countsIn w) p ≤ 127
+unfolding countsIn
+countsIn-low w p = countsBefore-low 8 w [] (λ _. zero-le) p
+
 -- the last byte's count
 pub last-count : (n w c : ℕ) (rest : Position) → c < 256 → countsBefore (suc n) (w * 256 + c) rest ≡ countsBefore n w (c % 128 ∷ rest)
 unfolding countsBefore

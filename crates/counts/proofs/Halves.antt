@@ -1,18 +1,18 @@
--- The steps over arrays. What the masks' edges bring to a state, or leave to it, is the count that the definition's step of the eight counts has
--- there: counts within an array are read alike on both sides, and no edge comes from or leads to a state from 8 on. Assumes nothing.
+-- The step forward over arrays. What the masks' edges bring to a state is the count that the definition's step of the eight counts has there:
+-- counts within an array are read alike on both sides, and no edge comes from or leads to a state from 8 on. Assumes nothing.
 use mathlib.Core.Path.{_≡_, sym, _∙_}
 use mathlib.Core.Bool.{cond}
 use mathlib.Core.List.{List}
-use Prim.Native.Nat.{ℕ, _+_, _-_, _≤_, _<_}
+use Prim.Native.Nat.{ℕ, _≤_, _<_}
 use native.Mathlib.Decide.{decLt}
 use native.Mathlib.Omega.{arith}
 use lib.IntN.{ℤ}
 use lib.ListN.{length, getD}
 use Rattle.meaning.specs.Lists.{largest}
 use Rattle.meaning.specs.Table.{bit}
-use Rattle.meaning.specs.Counting.{count, plus, forward, back}
+use Rattle.meaning.specs.Counting.{count, plus, forward}
 use Rattle.meaning.proofs.Tests.{largest-same}
-use Rattle.meaning.proofs.Steps.{count-beyond, forward-length, forward-at, back-length}
+use Rattle.meaning.proofs.Steps.{count-beyond, forward-length, forward-at}
 use Rattle.counts.specs.Cells.{cell, cells, halfOf}
 use Rattle.counts.specs.declared.position.Half.{Half}
 use Rattle.counts.proofs.Cells.{cells-at}
@@ -21,10 +21,6 @@ use Rattle.counts.proofs.Edges.{mask-beyond}
 -- what state p brings to state q going forward
 abbrev pub brought : ℕ → Half → List ℤ → ℕ → ℕ → ℕ
 brought k half m q p = cond (bit (getD (half .masks) p 0) q) (plus k (getD (half .marks) q 0) (cell m p)) 0
-
--- what state q, its mark taken off already, leaves to the mask's source going back
-abbrev pub left : ℕ → ℕ → List ℤ → ℕ → ℕ
-left k mask eased q = cond (bit mask q) (cell eased q) (k + 1)
 
 module _ (k : ℕ) (half : Half) (m : List ℤ) where
   pub forward-brought : (q : ℕ) → length (half .masks) ≡ 8 → q < half .targets
@@ -40,7 +36,3 @@ module _ (k : ℕ) (half : Half) (m : List ℤ) where
   pub forward-none : (q : ℕ) → half .targets ≤ q → count (forward k (halfOf half) (cells m)) q ≡ 0
   unfolding halfOf
   forward-none q l = count-beyond (forward k (halfOf half) (cells m)) q (rw (forward-length k (halfOf half) (cells m)) l)
-
-  pub back-none : (p : ℕ) → half .sources ≤ p → count (back k (halfOf half) (cells m)) p ≡ 0
-  unfolding halfOf
-  back-none p l = count-beyond (back k (halfOf half) (cells m)) p (rw (back-length k (halfOf half) (cells m)) l)

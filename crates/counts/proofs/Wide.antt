@@ -2,24 +2,25 @@
 -- of both, and widening loses nothing. An array m with `cells m ≡ positionBytes F` stands for F: these laws carry what the code gives for m over to F. By
 -- the laws of a tab; the order of byte strings by induction. Assumes nothing.
 use mathlib.Core.Path.{_≡_, sym, ap, _∙_}
-use mathlib.Core.Bool.{Bool, false, _&&_, _||_}
+use mathlib.Core.Bool.{Bool, false, cond, _&&_, _||_}
 use mathlib.Core.List.{[], _∷_}
-use Prim.Native.Nat.{ℕ, zero, suc, _+_, _≤_, _<_}
+use Prim.Native.Nat.{ℕ, zero, suc, _+_, _-_, _≤_, _<_}
 use native.Mathlib.Nat.{le-of-suc-le-suc, not-suc-le-zero}
 use native.Mathlib.Decide.{decLt}
 use native.Mathlib.Omega.{arith}
 use lib.Dec.{ltb, eqb}
 use lib.ListN.{length}
-use Rattle.meaning.specs.Lists.{before, tab}
+use Rattle.meaning.specs.Lists.{before, smallest, tab}
 use Rattle.meaning.specs.Table.{Half}
 use Rattle.meaning.specs.Counting.{Position, count, below, forward, back}
 use Rattle.meaning.specs.Written.{positionBytes}
-use Rattle.meaning.proofs.Tests.{refuted, largest-same, smallest-same, same-test}
-use Rattle.meaning.proofs.Lists.{tab-same}
+use Rattle.meaning.proofs.Tests.{refuted, largest-same, smallest-top, smallest-same, same-test}
+use Rattle.meaning.proofs.Lists.{tab-length, tab-at, tab-beyond, tab-same}
 use Rattle.meaning.proofs.Ascending.{before-irrefl}
-use Rattle.meaning.proofs.Steps.{count-beyond, same-counts, below-at, below-of}
+use Rattle.meaning.proofs.Steps.{count-beyond, same-counts, below-at, below-of, back-length, back-at}
 use Rattle.meaning.proofs.Buffers.{position-bytes}
 use Rattle.meaning.proofs.Readings.{bytes-at}
+use Rattle.counts.specs.Cells.{backUnder}
 
 -- its length and its counts
 pub wide-length : (F : Position) → length (positionBytes F) ≡ 8
@@ -66,6 +67,32 @@ back-reads K h F G e = tab-same (h .sources) _ _ (λ p _. smallest-same (K + 1) 
 
 pub back-counts : (K : ℕ) (h : Half) (F G : Position) → ((q : ℕ) → count F q ≡ count G q) → back K h F ≡ back K h G
 back-counts K h F G e = back-reads K h F G (λ q _. e q)
+
+-- under the one maximal safe position, in eight counts, the step back is the definition's, in eight counts
+module _ (K : ℕ) (h : Half) (F : Position) where
+  -- what p has under a top
+  abbrev least : ℕ → ℕ → ℕ
+  least top p = smallest top (h .targets) (λ q. cond (h .edge p q) (count F q - h .mark q) top)
+
+  least-back : (p : ℕ) → Dec (p < h .sources) → least (count (tab (h .sources) (λ _. K + 1)) p) p ≡ count (back K h F) p
+  least-back p (yes l) = rw (tab-at (h .sources) (λ _. K + 1) p 0 l) (sym (back-at K h F p l))
+  least-back p (no l) =
+      let beyond : h .sources ≤ p = omega arith in
+      let none : count (back K h F) p ≡ 0 = count-beyond (back K h F) p (rw (back-length K h F) beyond) in
+      rw (tab-beyond (h .sources) (λ _. K + 1) p 0 beyond)
+      (omega (arith, smallest-top 0 (h .targets) (λ q. cond (h .edge p q) (count F q - h .mark q) 0)))
+
+  pub back-under-brim : backUnder (positionBytes (tab (h .sources) (λ _. K + 1))) h F ≡ positionBytes (back K h F)
+  unfolding backUnder
+  back-under-brim =
+      let top = tab (h .sources) (λ _. K + 1) in
+      let long = wide-length top in
+      let under : ℕ → ℕ = λ p. least (count (positionBytes top) p) p in
+      let short : length (tab (length (positionBytes top)) under) ≡ 8 = tab-length (length (positionBytes top)) under ∙ long in
+      same-counts (tab (length (positionBytes top)) under) (positionBytes (back K h F)) (short ∙ sym (wide-length (back K h F)))
+      (λ p b. let l : p < 8 = rw short at b in
+      tab-at (length (positionBytes top)) under p 0 (rw long l)
+      ∙ ap (λ c. least c p) (wide-at top p l) ∙ least-back p (decLt p (h .sources)) ∙ sym (wide-at (back K h F) p l))
 
 -- so they do not see that a position was widened
 pub below-wide : (F G : Position) → length F ≤ 8 → length G ≤ 8 → below (positionBytes F) (positionBytes G) ≡ below F G

@@ -1,10 +1,10 @@
 -- How positions and halves of a round stand in code: eight signed counts, and a byte of targets for each state.
 use mathlib.Core.Bool.{cond}
 use mathlib.Core.List.{List}
-use Prim.Native.Nat.{ℕ, min}
+use Prim.Native.Nat.{ℕ, _-_, min}
 use lib.ListN.{length, getD}
 use lib.IntN.{ℤ, pos}
-use Rattle.meaning.specs.Lists.{tab}
+use Rattle.meaning.specs.Lists.{tab, smallest}
 use Rattle.meaning.specs.Table as T
 use Rattle.meaning.specs.Table.{bit}
 use Rattle.meaning.specs.Counting.{Position, oneHigher, count}
@@ -21,6 +21,11 @@ cells m = tab 8 (cell m)
 -- the lesser counts of two positions
 unfoldable pub lesserCounts : Position → Position → Position
 lesserCounts F G = tab (length F) (λ q. min (count F q) (count G q))
+
+-- the step back where safety allows each source its count in `most`, and no more
+unfoldable pub backUnder : Position → T.Half → Position → Position
+backUnder most h F =
+    tab (length most) (λ p. smallest (count most p) (h .targets) (λ q. cond (h .edge p q) (count F q - h .mark q) (count most p)))
 
 -- the half of a round that masks and marks state
 unfoldable pub halfOf : Half → T.Half

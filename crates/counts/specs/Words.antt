@@ -2,13 +2,12 @@
 use mathlib.Core.Path.{_≡_}
 use mathlib.Core.Bool.{cond}
 use mathlib.Core.List.{List, [], _∷_}
-use Prim.Native.Nat.{ℕ, zero, suc, _+_, _*_, _/_, _%_, _≤_, _<_}
+use Prim.Native.Nat.{ℕ, zero, suc, _+_, _*_, _/_, _%_, _<_}
 use lib.Dec.{leb}
 use lib.ListN.{getD}
 use Rattle.meaning.specs.Lists.{tab}
-use Rattle.meaning.specs.Table.{Half, bit}
+use Rattle.meaning.specs.Table.{bit}
 use Rattle.meaning.specs.Counting.{Position}
-use Rattle.meaning.specs.Written.{positionBytes}
 
 -- the counts of the last n bytes of a number, before some more counts
 unfoldable pub countsBefore : ℕ → ℕ → Position → Position
@@ -31,7 +30,3 @@ barCounts masks q = tab 8 (λ p. cond (bit (getD masks p 0) q) 0 127)
 -- the words of a side's targets are their bars
 abbrev pub BarsOf : List ℕ → ℕ → List ℕ → Type 0
 BarsOf masks targets words = (q : ℕ) → q < targets → q < 8 → countsIn (getD words q 0) ≡ barCounts masks q
-
--- what holds for the K whose most safe position of the half's sources is given
-abbrev pub FromMost : Half → ℕ → (ℕ → Type 0) → Type 0
-FromMost h most P = (K : ℕ) → K ≤ 7 → countsIn most ≡ positionBytes (tab (h .sources) (λ _. K + 1)) → P K

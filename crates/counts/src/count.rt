@@ -1,8 +1,9 @@
-// One count. Contracts read a count one higher, as the definitions do: any negative number is -1.
+// One count: a small signed integer, -1 where no run is. Any negative number is taken for -1, and none but -1 is given for it.
 ghost use mathlib.Core.Path.{_≡_};
-ghost use Prim.Native.Nat.{_≤_, _-_, min, max};
+ghost use Prim.Native.Nat.{_≤_, min};
 ghost use lib.Dec.{leb};
-ghost use Rattle.meaning.specs.Counting.{oneHigher, plus as plusMark};
+ghost use Rattle.meaning.specs.Counting.{oneHigher};
+ghost use Rattle.counts.specs.Signed.{minZ, maxZ, plusSigned, lessSigned, oneLower};
 
 // Whether one count is at most another.
 pub fn at_most(a: i8, b: i8) -> bool
@@ -13,14 +14,14 @@ pub fn at_most(a: i8, b: i8) -> bool
 
 // The lesser of two counts.
 pub fn lesser(a: i8, b: i8) -> i8
-    ensures { λ r. ⌜ oneHigher r ≡ min (oneHigher a) (oneHigher b) ⌝ }
+    ensures { λ r. ⌜ r ≡ minZ a b ⌝ }
 {
     if a < b { a } else { b }
 }
 
 // The greater of two counts.
 pub fn greater(a: i8, b: i8) -> i8
-    ensures { λ r. ⌜ oneHigher r ≡ max (oneHigher a) (oneHigher b) ⌝ }
+    ensures { λ r. ⌜ r ≡ maxZ a b ⌝ }
 {
     if a < b { b } else { a }
 }
@@ -28,10 +29,10 @@ pub fn greater(a: i8, b: i8) -> i8
 // A count after a state of that mark is entered: -1 stays -1, and an overrun stops at K + 1.
 pub fn plus(c: i8, mark: u8, k: usize) -> i8
     requires { ⌜ k ≤ 7 ⌝ }
-    ensures { λ r. ⌜ oneHigher r ≡ plusMark k mark (oneHigher c) ⌝ }
+    ensures { λ r. ⌜ r ≡ plusSigned k mark c ⌝ }
 {
     if c < 0 {
-        return c;
+        return -1;
     }
     let sum = (c as usize) + (mark as usize);
     if k < sum {
@@ -42,17 +43,10 @@ pub fn plus(c: i8, mark: u8, k: usize) -> i8
 
 // A count less a mark, floored at -1.
 pub fn less(c: i8, mark: u8) -> i8
-    ensures { λ r. ⌜ oneHigher r ≡ oneHigher c - mark ⌝ }
+    ensures { λ r. ⌜ r ≡ lessSigned c mark ⌝ }
 {
-    if c < 0 {
-        return -1;
-    }
-    let whole = c as u8;
-    if whole < mark {
-        -1
-    } else {
-        (whole - mark) as i8
-    }
+    let left = c as i16 - mark as i16;
+    if left < 0 { -1 } else { left as i8 }
 }
 
 // The winners' byte of a count: one higher.
@@ -65,15 +59,12 @@ pub fn to_byte(c: i8) -> u8
     c as u8 + 1
 }
 
-// The count of a winners' byte. No count needs a byte over 128.
+// The count of a winners' byte: one lower. No count needs a byte over 128.
 pub fn from_byte(b: u8) -> i8
-    ensures { λ r. ⌜ oneHigher r ≡ min b 128 ⌝ }
+    ensures { λ r. ⌜ r ≡ oneLower (min b 128) ⌝ }
 {
-    if b == 0 {
-        return -1;
-    }
     if 128 < b {
         return 127;
     }
-    (b - 1) as i8
+    (b as i16 - 1) as i8
 }

@@ -7,10 +7,9 @@ ghost use mathlib.Core.Bool.{true};
 ghost use Prim.Native.Nat.{_<_};
 ghost use lib.Dec.{leb};
 ghost use Rattle.meaning.specs.Lists.{before as beforeBytes, every};
-ghost use Rattle.meaning.specs.Counting.{below as belowAll, back as backBy};
-ghost use Rattle.meaning.specs.Written.{positionBytes};
-ghost use Rattle.counts.specs.Cells.{cells, lesserCounts, halfOf};
-ghost use Rattle.counts.specs.Words.{countsIn, flags, barCounts, BarsOf, FromMost};
+ghost use Rattle.meaning.specs.Counting.{below as belowAll};
+ghost use Rattle.counts.specs.Cells.{cells, lesserCounts, halfOf, backUnder};
+ghost use Rattle.counts.specs.Words.{countsIn, flags, barCounts, BarsOf};
 
 // The top bit of each byte, and the bits below it.
 const TOPS: u64 = 0x8080_8080_8080_8080;
@@ -115,7 +114,7 @@ pub fn bars(half: Half) -> [u64; 8]
 // sources, all of them at once.
 pub fn back(m: &[i8; 8], half: Half, bars: &[u64; 8], most: u64) -> u64
     requires { ⌜ BarsOf (half .masks) (half .targets) (now bars) ⌝ }
-    ensures { λ r. ⌜ FromMost (halfOf half) most (λ K. countsIn r ≡ positionBytes (backBy K (halfOf half) (cells (now (m .entry))))) ⌝ }
+    ensures { λ r. ⌜ countsIn r ≡ backUnder (countsIn most) (halfOf half) (cells (now (m .entry))) ⌝ }
 {
     let mut low = most;
     let mut q = 0;

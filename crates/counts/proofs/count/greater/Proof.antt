@@ -1,28 +1,25 @@
--- `greater`: the test of the two goes the way of the counts one higher. Assumes nothing.
-use Prim.Native.Nat.{_≤_}
-use native.Mathlib.Omega.{arith}
+-- `greater` makes the definition's own test. Assumes nothing.
 use mir.Syntax.{w8}
 use mir.ValLaws.{toZ-ofZ}
-use Rattle.meaning.specs.Counting.{oneHigher}
-use Rattle.counts.proofs.Signed.{ordered, not-ordered}
+use Rattle.counts.specs.Signed.{maxZ}
 use Rattle.counts.proofs.count.greater.Statement.{statement}
 use Rattle.counts.proofs.count.greater.Tie as tie
 
 returns : tie.Need-returns
+unfolding maxZ
 returns c =
-    let a = c .before .args .a in
-    let b = c .before .args .b in
-    let t = rw (toZ-ofZ w8 a (c .before .fits .a), toZ-ofZ w8 b (c .before .fits .b)) at (c .if1 .taken) in
-    let l : oneHigher a ≤ oneHigher b = ordered a b t in
-    rw (toZ-ofZ w8 b (c .before .fits .b)) (omega arith)
+    let a = toZ-ofZ w8 (c .before .args .a) (c .before .fits .a) in
+    let b = toZ-ofZ w8 (c .before .args .b) (c .before .fits .b) in
+    let t = rw (a, b) at (c .if1 .taken) in
+    rw (b, t)
 
 returns-2 : tie.Need-returns-2
+unfolding maxZ
 returns-2 c =
-    let a = c .before .args .a in
-    let b = c .before .args .b in
-    let t = rw (toZ-ofZ w8 a (c .before .fits .a), toZ-ofZ w8 b (c .before .fits .b)) at (c .if1 .left) in
-    let l : oneHigher b ≤ oneHigher a = not-ordered a b t in
-    rw (toZ-ofZ w8 a (c .before .fits .a)) (omega arith)
+    let a = toZ-ofZ w8 (c .before .args .a) (c .before .fits .a) in
+    let b = toZ-ofZ w8 (c .before .args .b) (c .before .fits .b) in
+    let t = rw (a, b) at (c .if1 .left) in
+    rw (a, t)
 
 pub greater-spec : {M : Type 1} → statement M
 greater-spec = tie.close (tie.spec returns returns-2)

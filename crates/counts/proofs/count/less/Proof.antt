@@ -1,54 +1,57 @@
--- `less`: a negative count gives -1; any other is its size, which a byte holds, and the difference floors at -1. Assumes nothing.
-use mathlib.Core.Path.{_≡_, _∙_}
-use Prim.Native.Nat.{suc, _-_, _<_, _≤_}
+-- `less`: two bytes hold the difference, so it is exact; below 0 it is floored at -1, and else one byte holds it. Assumes nothing.
+use mathlib.Core.Path.{_≡_}
 use native.Mathlib.Omega.{arith}
-use lib.IntN.{natAbs}
-use mir.Syntax.{w8}
-use mir.ValLaws.{toZ-ofZ}
-use Rattle.meaning.specs.Counting.{oneHigher}
-use Rattle.counts.proofs.Signed.{negative, counted, not-negative, small, byte-counted}
+use borrow.Author.Needs.{needs}
+use lib.IntN.{pos, _-ℤ_}
+use mir.Syntax.{w8, w16}
+use mir.Val.{toZ, ofZ}
+use mir.ValLaws.{toZ-pos, toZ-ofZ}
+use Rattle.counts.specs.Signed.{lessSigned}
+use Rattle.counts.proofs.Signed.{wider, floored, not-floored, less-fits, less-small}
 use Rattle.counts.proofs.count.less.Statement.{statement}
 use Rattle.counts.proofs.count.less.Tie as tie
 
-returns : tie.Need-returns
-returns c =
-    let e = toZ-ofZ w8 (c .before .args .c) (c .before .fits .c) in
-    let n : oneHigher (c .before .args .c) ≡ 0 = negative (c .before .args .c) (rw e at (c .if1 .taken)) in
-    omega arith
+-- the difference that the code makes, and what its bits stand for
+exact : (s : tie.Start) → toZ w16 (ofZ w16 (toZ w8 (ofZ w8 (s .args .c)))) -ℤ toZ w16 (s .args .mark) ≡ s .args .c -ℤ pos (s .args .mark)
+exact s =
+    let m = s .fits .mark .fits in
+    rw (
+      toZ-ofZ w8 (s .args .c) (s .fits .c),
+      toZ-ofZ w16 (s .args .c) (wider (s .args .c) (s .fits .c)),
+      toZ-pos w16 (s .args .mark) (omega arith),
+    )
 
-cast-whole : tie.Need-cast-whole
-cast-whole c =
-    let e = toZ-ofZ w8 (c .before .args .c) (c .before .fits .c) in
-    let t = rw e at (c .if1 .left) in
-    let s : natAbs (c .before .args .c) < 128 = small (c .before .args .c) (c .before .fits .c) t in
-    rw e (not-negative (c .before .args .c) t, record { fits = omega arith })
+left-is : (s : tie.Start)
+    → toZ w16 (ofZ w16 (toZ w16 (ofZ w16 (toZ w8 (ofZ w8 (s .args .c)))) -ℤ toZ w16 (s .args .mark))) ≡ s .args .c -ℤ pos (s .args .mark)
+left-is s =
+    rw (exact s)
+    (toZ-ofZ w16 (s .args .c -ℤ pos (s .args .mark)) (less-fits (s .args .c) (s .args .mark) (s .fits .c) (s .fits .mark .fits)))
+
+cast-left : tie.Need-cast-left
+cast-left c = rw (toZ-ofZ w8 (c .args .c) (c .fits .c)) (wider (c .args .c) (c .fits .c))
+
+cast-left-2 : tie.Need-cast-left-2
+cast-left-2 c = search needs
+
+sub-left : tie.Need-sub-left
+sub-left c = rw (exact c) (less-fits (c .args .c) (c .args .mark) (c .fits .c) (c .fits .mark .fits))
 
 cast-result : tie.Need-cast-result
 cast-result c =
-    let a = c .before .before .args .c in
-    let e = toZ-ofZ w8 a (c .before .before .fits .c) in
-    let s : natAbs a < 128 = small a (c .before .before .fits .c) (rw e at (c .before .if1 .left)) in
-    rw e (record { sfits = omega arith })
+    let s = c .before in
+    rw (left-is s) (less-small (s .args .c) (s .args .mark) (s .fits .c) (rw (left-is s) at (c .if1 .left)))
+
+returns : tie.Need-returns
+unfolding lessSigned
+returns c = floored (c .before .args .c -ℤ pos (c .before .args .mark)) (rw (left-is (c .before)) at (c .if1 .taken))
 
 returns-2 : tie.Need-returns-2
+unfolding lessSigned
 returns-2 c =
-    let a = c .before .before .args .c in
-    let e = toZ-ofZ w8 a (c .before .before .fits .c) in
-    let n : oneHigher a ≡ suc (natAbs a) = counted a (rw e at (c .before .if1 .left)) in
-    let l : natAbs a < c .before .before .args .mark = rw e at (c .if2 .taken) in
-    omega arith
-
-returns-3 : tie.Need-returns-3
-returns-3 c =
-    let a = c .before .before .args .c in
-    let e = toZ-ofZ w8 a (c .before .before .fits .c) in
-    let t = rw e at (c .before .if1 .left) in
-    let n : oneHigher a ≡ suc (natAbs a) = counted a t in
-    let s : natAbs a < 128 = small a (c .before .before .fits .c) t in
-    let m = c .before .before .args .mark in
-    let l : m ≤ natAbs a = rw e at (c .if2 .left) in
-    let r : suc (natAbs a - m) ≡ oneHigher a - m = omega arith in
-    rw e (byte-counted (natAbs a - m) (omega arith) ∙ r)
+    let s = c .before in
+    let left = s .args .c -ℤ pos (s .args .mark) in
+    let t = rw (left-is s) at (c .if1 .left) in
+    rw (left-is s, toZ-ofZ w8 left (less-small (s .args .c) (s .args .mark) (s .fits .c) t)) (not-floored left t)
 
 pub less-spec : {M : Type 1} → statement M
-less-spec = tie.close (tie.spec returns cast-whole cast-result returns-2 returns-3)
+less-spec = tie.close (tie.spec cast-left cast-left-2 sub-left cast-result returns returns-2)

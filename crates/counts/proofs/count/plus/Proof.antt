@@ -1,23 +1,20 @@
 -- `plus`: a negative count stays -1; any other is its size, and the sum past K is seen as K + 1. Assumes nothing.
-use mathlib.Core.Path.{_≡_, sym, _∙_}
-use Prim.Native.Nat.{suc, _+_, _<_, _≤_, min}
+use mathlib.Core.Path.{_≡_, sym, ap, _∙_}
+use Prim.Native.Nat.{_+_, _<_, _≤_, min}
 use native.Mathlib.Omega.{arith}
 use borrow.Author.Needs.{needs}
-use lib.IntN.{natAbs}
+use lib.IntN.{pos, natAbs}
 use mir.Syntax.{w8}
-use mir.ValLaws.{toZ-ofZ}
-use Rattle.meaning.specs.Counting.{oneHigher}
-use Rattle.meaning.proofs.Steps.{plus-none}
-use Rattle.counts.proofs.Signed.{negative, counted, not-negative, small, byte-counted, plus-some}
+use mir.ValLaws.{toZ-pos, toZ-ofZ}
+use Rattle.counts.proofs.Signed.{not-negative, small, plus-no-run, plus-run}
 use Rattle.counts.proofs.count.plus.Statement.{statement}
 use Rattle.counts.proofs.count.plus.Tie as tie
 
 returns : tie.Need-returns
 returns c =
     let a = c .before .args .c in
-    let e = toZ-ofZ w8 a (c .before .fits .c) in
-    let none : oneHigher a ≡ 0 = negative a (rw e at (c .if1 .taken)) in
-    rw (e, none) (sym (plus-none (c .before .args .k) (c .before .args .mark)))
+    let t = rw (toZ-ofZ w8 a (c .before .fits .c)) at (c .if1 .taken) in
+    plus-no-run (c .before .args .k) (c .before .args .mark) a t
 
 cast-sum : tie.Need-cast-sum
 cast-sum c =
@@ -44,10 +41,9 @@ returns-2 c =
     let m = c .before .before .args .mark in
     let k = c .before .before .args .k in
     let e = toZ-ofZ w8 a (c .before .before .fits .c) in
-    let n : oneHigher a ≡ suc (natAbs a) = counted a (rw e at (c .before .if1 .left)) in
     let l : k < natAbs a + m = rw e at (c .if2 .taken) in
-    let r : suc (k + 1) ≡ min (k + 2) (suc (natAbs a) + m) = omega arith in
-    byte-counted (k + 1) (omega arith) ∙ r ∙ plus-some k m (natAbs a) (oneHigher a) n
+    let r : k + 1 ≡ min (k + 1) (natAbs a + m) = omega arith in
+    toZ-pos w8 (k + 1) (omega arith) ∙ ap pos r ∙ sym (plus-run k m a (rw e at (c .before .if1 .left)))
 
 cast-result-2 : tie.Need-cast-result-2
 cast-result-2 c = search needs
@@ -58,10 +54,9 @@ returns-3 c =
     let m = c .before .before .args .mark in
     let k = c .before .before .args .k in
     let e = toZ-ofZ w8 a (c .before .before .fits .c) in
-    let n : oneHigher a ≡ suc (natAbs a) = counted a (rw e at (c .before .if1 .left)) in
     let l : natAbs a + m ≤ k = rw e at (c .if2 .left) in
-    let r : suc (natAbs a + m) ≡ min (k + 2) (suc (natAbs a) + m) = omega arith in
-    rw e (byte-counted (natAbs a + m) (omega arith) ∙ r ∙ plus-some k m (natAbs a) (oneHigher a) n)
+    let r : natAbs a + m ≡ min (k + 1) (natAbs a + m) = omega arith in
+    rw e (toZ-pos w8 (natAbs a + m) (omega arith) ∙ ap pos r ∙ sym (plus-run k m a (rw e at (c .before .if1 .left))))
 
 pub plus-spec : {M : Type 1} → statement M
 plus-spec =

@@ -1,7 +1,7 @@
 -- `arriving`: the loop's invariant is that `most` is the largest count that the side's states before p bring to q. A turn adds what p brings over
 -- an edge, and nothing elsewhere. At 8 that is the largest over the whole side, since there are eight masks. The measure is the number of
 -- states left. Assumes nothing.
-use mathlib.Core.Path.{_≡_, sym, _∙_}
+use mathlib.Core.Path.{_≡_, sym, ap, _∙_}
 use mathlib.Core.Logic.{⊎-elim}
 use Prim.Native.Nat.{_-_, _≤_}
 use native.Mathlib.Omega.{arith}
@@ -14,7 +14,7 @@ use mir.Val.{toZ}
 use Rattle.meaning.specs.Lists.{largest}
 use Rattle.meaning.specs.Counting.{plus, oneHigher}
 use Rattle.counts.specs.Cells.{cell}
-use Rattle.counts.proofs.Signed.{from-bits}
+use Rattle.counts.proofs.Signed.{from-bits, greater-signed, plus-signed}
 use Rattle.counts.proofs.Edges.{bit-beyond, mask-beyond, within, largest-next, largest-within}
 use Rattle.counts.proofs.Halves.{brought}
 use Rattle.counts.proofs.position.arriving.Statement.{statement}
@@ -69,8 +69,9 @@ loop-again c =
     let next = largest-next (within n 0 (brought (given .k) (given .t2) (given .m .now) (given .q))) p in (
       omega arith,
       ⊎-elim
-          (λ w. let one = rw (from-bits (getD (given .m .now) p (pos 0)) (w .4 .given)) at (w .6 .ensures) in
-          let more = rw (from-bits (w .6 .result) (w .6 .ok)) at (w .7 .ensures) in
+          (λ w. let one : oneHigher (w .6 .result) ≡ sum
+          = ap oneHigher (rw (from-bits (getD (given .m .now) p (pos 0)) (w .4 .given)) at (w .6 .ensures)) ∙ plus-signed _ _ _ in
+          let more = ap oneHigher (rw (from-bits (w .6 .result) (w .6 .ok)) at (w .7 .ensures)) ∙ greater-signed _ _ in
           rw (w .8, from-bits (w .7 .result) (w .7 .ok))
           (omega (arith, one, more, next sum (rw (lt-ltb p n (w .0 .taken), sym (w .2 .ensures) ∙ w .3 .taken)))))
           (⊎-elim (λ w. rw (w .4) (omega (arith, next 0 (rw (lt-ltb p n (w .0 .taken), sym (w .2 .ensures) ∙ w .3 .left)))))

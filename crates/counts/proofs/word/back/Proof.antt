@@ -1,7 +1,7 @@
--- `back`: the loop's invariant is that the counts of `low` are the least of the most and of what the targets before q leave. A turn takes the lesser of
--- them and of the target's count less its mark, in every byte, under its bar; beyond the side nothing is left. At 8 that is the step back, since no mask
--- has a target from 8 on. The measure is the number of targets left. Assumes nothing.
-use mathlib.Core.Path.{_≡_, refl}
+-- `back`: the loop's invariant is that the counts of `low` are the least of the most and of what the targets before q leave. A turn takes
+-- the lesser of them and of the target's count less its mark, in every byte, under its bar; beyond the side nothing is left. At 8 that is the
+-- step back under the most, since no mask has a target from 8 on. The measure is the number of targets left. Assumes nothing.
+use mathlib.Core.Path.{_≡_, refl, ap, _∙_}
 use mathlib.Core.Logic.{⊎-elim}
 use Prim.Native.Nat.{_≤_, _-_, min}
 use native.Mathlib.Omega.{arith}
@@ -10,7 +10,7 @@ use lib.IntN.{pos}
 use lib.ListN.{getD}
 use Rattle.meaning.specs.Counting.{oneHigher}
 use Rattle.counts.specs.Cells.{cell}
-use Rattle.counts.proofs.Signed.{from-bits}
+use Rattle.counts.proofs.Signed.{from-bits, lesser-signed, less-signed}
 use Rattle.counts.proofs.Bars.{Lowered, lowered-by, lowered-still, lowered-whole}
 use Rattle.counts.proofs.word.back.Statement.{statement}
 use Rattle.counts.proofs.word.back.Tie as tie
@@ -71,8 +71,10 @@ loop-again c =
     let before = at .loop .inv .1 in (
       omega arith,
       ⊎-elim
-          (λ w. let eased : oneHigher (w .3 .result) ≡ cell m q - getD (half .marks) q 0 = rw (from-bits (getD m q (pos 0)) (w .1 .given)) at (w .3 .ensures) in
-          let capped : oneHigher (w .4 .result) ≡ min (oneHigher (w .3 .result)) 127 = rw (from-bits (w .3 .result) (w .3 .ok)) at (w .4 .ensures) in
+          (λ w. let eased : oneHigher (w .3 .result) ≡ cell m q - getD (half .marks) q 0
+          = ap oneHigher (rw (from-bits (getD m q (pos 0)) (w .1 .given)) at (w .3 .ensures)) ∙ less-signed _ _ in
+          let capped : oneHigher (w .4 .result) ≡ min (oneHigher (w .3 .result)) 127
+          = ap oneHigher (rw (from-bits (w .3 .result) (w .3 .ok)) at (w .4 .ensures)) ∙ lesser-signed _ _ in
           let byte : w .5 .result ≡ oneHigher (w .4 .result) = rw (from-bits (w .4 .result) (w .4 .ok)) at (w .5 .ensures) in
           rw (w .8) (lowered-by half m (given .most) q low before (getD (given .bars .now) q 0) (w .5 .result) (w .7 .result) (w .0 .taken)
           (at .before .pre q (w .0 .taken) (omega arith)) (omega arith) (w .7 .ensures)))
@@ -81,11 +83,11 @@ loop-again c =
     )
 
 returns : tie.Need-returns Inv-loop μ-loop
-returns c K small full =
+returns c =
     let at = c .before in
     let given = at .before .args in
     let whole : at .loop .q ≡ 8 = omega arith in
-    lowered-whole (given .t2) (given .m .now) K small (given .most) (at .loop .low) full (rw whole at (at .loop .inv .1))
+    lowered-whole (given .t2) (given .m .now) (given .most) (at .loop .low) (rw whole at (at .loop .inv .1))
 
 pub back-spec : {M : Type 1} → statement M
 back-spec =

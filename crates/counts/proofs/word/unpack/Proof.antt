@@ -1,13 +1,13 @@
 -- `unpack`: the loop's invariant is that the counts of the word are those of what is left in its last q bytes, before the array's counts from q on.
 -- A turn takes the last count off, and stores it before them. The measure is the number of counts left. Assumes nothing.
-use mathlib.Core.Path.{_≡_, refl, _∙_}
-use Prim.Native.Nat.{suc, _-_, _%_, _≤_}
+use mathlib.Core.Path.{_≡_, refl, ap, _∙_}
+use Prim.Native.Nat.{suc, _-_, _%_, _≤_, min}
 use native.Mathlib.Omega.{arith}
 use borrow.Author.Needs.{needs}
 use lib.ListN.{length, length-set, drop}
 use Rattle.meaning.specs.Counting.{oneHigher}
 use Rattle.counts.specs.Cells.{cells}
-use Rattle.counts.proofs.Signed.{from-bits}
+use Rattle.counts.proofs.Signed.{from-bits, lower-signed}
 use Rattle.counts.specs.Words.{countsBefore, countsIn}
 use Rattle.counts.proofs.Bytes.{unpacked-next}
 use Rattle.counts.proofs.word.unpack.Statement.{statement}
@@ -44,7 +44,8 @@ loop-again c =
     let q = at .loop .q in
     let r = c .from-byte .result in
     let some : suc (q - 1) ≡ q = omega (arith, c .before .loop-test .taken) in
-    let one : oneHigher r ≡ at .loop .left % 128 = omega (arith, c .from-byte .ensures) in
+    let lower : oneHigher r ≡ min (at .loop .left % 128) 128 = ap oneHigher (c .from-byte .ensures) ∙ lower-signed _ in
+    let one : oneHigher r ≡ at .loop .left % 128 = omega arith in
     rw (from-bits r (c .from-byte .ok)) (
       omega (arith, at .loop .inv .0),
       length-set (at .loop .out) (q - 1) r ∙ at .loop .inv .1,
