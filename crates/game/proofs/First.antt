@@ -13,13 +13,13 @@ use Rattle.meaning.specs.Lists.{any}
 use Rattle.meaning.specs.Records.{recordsOf, controller, world}
 use Rattle.meaning.specs.Table.{Table, tableOf}
 use Rattle.meaning.specs.Counting.{Position, below}
-use Rattle.meaning.specs.Rounds.{Set, allSafe, maximalMembers}
+use Rattle.meaning.specs.Rounds.{Set, allSafe, maximalMembers, Down, Within, FirstSet}
 use Rattle.meaning.specs.Written.{positionBytes}
 use Rattle.meaning.specs.Answers.{tableChecks}
 use Rattle.meaning.proofs.Tests.{both, both-left, both-right, same-test}
 use Rattle.meaning.proofs.Lists.{any-at, any-of}
 use Rattle.meaning.proofs.Positions.{allSafe-length}
-use Rattle.meaning.proofs.Rounds.{Down, Within, FirstSet, allSafe-first}
+use Rattle.meaning.proofs.Rounds.{allSafe-first}
 use Rattle.meaning.proofs.Maximal.{member-in, climb}
 use Rattle.meaning.proofs.Checks.{Passes}
 use Rattle.meaning.proofs.Sound.{passes-sound, passes-good, states-top}

@@ -15,13 +15,13 @@ use Rattle.meaning.specs.declared.Refusal.the-variants.{Nothing}
 use Rattle.meaning.specs.Lists.{any, place, written}
 use Rattle.meaning.specs.Table.{Table, onOutput, onInput}
 use Rattle.meaning.specs.Counting.{Position, count, forward, below}
-use Rattle.meaning.specs.Rounds.{Set, winning, rounds, full}
+use Rattle.meaning.specs.Rounds.{Set, winning, rounds, full, FirstSet}
 use Rattle.meaning.specs.Written.{Row, positionBytes, winners, winnersBytes, covering, afterRound, outputOf, startState, rowBytes, rowsOfState, controllerRows, stateOrder}
 use Rattle.meaning.specs.Answers.{Solved, check, judge, unsolved, solvedFrom, stageChecks, room}
 use Rattle.meaning.proofs.Tests.{neither-left, neither-right, same-test, each-same, first-same}
 use Rattle.meaning.proofs.Lists.{tab-same, any-at, any-of, member-at}
 use Rattle.meaning.proofs.Steps.{forward-length}
-use Rattle.meaning.proofs.Rounds.{FirstSet, winning-down, winning-safe}
+use Rattle.meaning.proofs.Rounds.{winning-down, winning-safe}
 use Rattle.meaning.proofs.Maximal.{member-in, climb}
 use Rattle.meaning.proofs.Good.{Good}
 use Rattle.meaning.proofs.Rows.{output-letter, winner-wins}

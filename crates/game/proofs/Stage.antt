@@ -15,10 +15,9 @@ use Rattle.meaning.specs.declared.Refusal.{Refusal}
 use Rattle.meaning.specs.declared.Refusal.the-variants.{Bound, Room, Full}
 use Rattle.meaning.specs.Records.{recordsOf, output, input}
 use Rattle.meaning.specs.Table.{Table, tableOf}
-use Rattle.meaning.specs.Rounds.{Set}
+use Rattle.meaning.specs.Rounds.{Set, FirstSet}
 use Rattle.meaning.specs.Answers.{Check, check, refused, judge, bound, room, tableChecks, stageChecks, Solved, unsolved, solvedFrom}
 use Rattle.meaning.proofs.Tests.{neither-left, neither-right}
-use Rattle.meaning.proofs.Rounds.{FirstSet}
 use Rattle.meaning.proofs.Good.{Good}
 use Rattle.meaning.proofs.Records.{letters-top}
 use Rattle.meaning.proofs.Checks.{Passes, judge-passes, judge-append}

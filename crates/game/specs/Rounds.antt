@@ -9,9 +9,8 @@ use lib.ListN.{length}
 use Rattle.meaning.specs.Lists.{any, largest}
 use Rattle.meaning.specs.Table.{Table}
 use Rattle.meaning.specs.Counting.{Position, below}
-use Rattle.meaning.specs.Rounds.{Set, rounds, full}
+use Rattle.meaning.specs.Rounds.{Set, rounds, full, FirstSet}
 use Rattle.meaning.specs.Written.{positionBytes, winners}
-use Rattle.meaning.proofs.Rounds.{FirstSet}
 use Rattle.sets.specs.Engine.{listA, listB}
 use Rattle.sets.specs.Members.{members}
 use Rattle.sets.specs.declared.tops.Found.{Found}

@@ -11,10 +11,9 @@ use borrow.Author.Tests.{ne-eqb}
 use Rattle.meaning.specs.declared.Answer.{Answer}
 use Rattle.meaning.specs.declared.Refusal.the-variants as R
 use Rattle.meaning.specs.Table.{Table}
-use Rattle.meaning.specs.Rounds.{Set}
+use Rattle.meaning.specs.Rounds.{Set, FirstSet}
 use Rattle.meaning.specs.Written.{winners}
 use Rattle.meaning.specs.Answers.{Check, refused, judge, stageChecks, unsolved}
-use Rattle.meaning.proofs.Rounds.{FirstSet}
 use Rattle.meaning.proofs.Maximal.{some-winner}
 use Rattle.game.specs.declared.rounds.Settled.{Settled}
 use Rattle.game.specs.declared.rounds.Settled.the-variants.{After}

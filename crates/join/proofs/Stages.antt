@@ -13,11 +13,11 @@ use Rattle.meaning.specs.declared.Refusal.the-variants.{Full}
 use Rattle.meaning.specs.Records.{recordsOf, output, input}
 use Rattle.meaning.specs.Table.{Table, tableOf}
 use Rattle.meaning.specs.Counting.{Position}
-use Rattle.meaning.specs.Rounds.{Set, allSafe, winning, maximalMembers}
+use Rattle.meaning.specs.Rounds.{Set, allSafe, winning, maximalMembers, FirstSet}
 use Rattle.meaning.specs.Written.{positionBytes, winners}
 use Rattle.meaning.specs.Join.{joined, pairs}
 use Rattle.meaning.specs.Answers.{Check, check, judge, bound, room, stageChecks, unsolved, solvedFrom, pairChecks, partsChecks, parts}
-use Rattle.meaning.proofs.Rounds.{FirstSet, allSafe-first, winning-safe}
+use Rattle.meaning.proofs.Rounds.{allSafe-first, winning-safe}
 use Rattle.meaning.proofs.Records.{records-back, letters-top}
 use Rattle.meaning.proofs.Checks.{Passes, judge-append}
 use Rattle.meaning.proofs.Answers.{stated, joinedBytes, joinedTable}

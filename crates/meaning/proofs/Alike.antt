@@ -14,12 +14,12 @@ use Rattle.meaning.specs.declared.Refusal.the-variants.{Full}
 use Rattle.meaning.specs.Records.{recordsOf}
 use Rattle.meaning.specs.Table.{Table}
 use Rattle.meaning.specs.Counting.{Position, startPosition}
-use Rattle.meaning.specs.Rounds.{Set, allSafe, winning}
+use Rattle.meaning.specs.Rounds.{Set, allSafe, winning, FirstSet}
 use Rattle.meaning.specs.Written.{winners, startState}
 use Rattle.meaning.specs.Answers.{numberOf, codeOf, bound, room, stageChecks, Solved, unsolved, solvedFrom, solve, pairChecks}
 use Rattle.meaning.specs.Play.{Wins}
 use Rattle.meaning.proofs.Tests.{same-test}
-use Rattle.meaning.proofs.Rounds.{FirstSet, allSafe-first}
+use Rattle.meaning.proofs.Rounds.{allSafe-first}
 use Rattle.meaning.proofs.Winning.{winning-wins}
 use Rattle.meaning.proofs.Realizes.{start-length, start-covered}
 use Rattle.meaning.proofs.Checks.{Passes, judge-same}

@@ -16,12 +16,12 @@ use Rattle.meaning.specs.declared.Refusal.the-variants.{Full, Nothing}
 use Rattle.meaning.specs.Lists.{largest}
 use Rattle.meaning.specs.Records.{Record, recordsOf}
 use Rattle.meaning.specs.Table.{Table, tableOf}
-use Rattle.meaning.specs.Rounds.{Set, allSafe, setA, setB, setW, maximalMembers, rounds, widthOfRound, full}
+use Rattle.meaning.specs.Rounds.{Set, allSafe, setA, setB, setW, maximalMembers, rounds, widthOfRound, full, FirstSet}
 use Rattle.meaning.specs.Written.{winners}
 use Rattle.meaning.specs.Join.{joined, pairs}
 use Rattle.meaning.specs.Answers.{Check, bound, room, tableChecks, stageChecks, solveChecks, pairChecks, partsChecks}
 use Rattle.meaning.proofs.Tests.{both, clash, largest-passes, passes-largest}
-use Rattle.meaning.proofs.Rounds.{FirstSet, allSafe-first}
+use Rattle.meaning.proofs.Rounds.{allSafe-first}
 use Rattle.meaning.proofs.Maximal.{some-winner}
 use Rattle.meaning.proofs.Checks.{Passes, passes-member, passes-at, passes-left, passes-right, Fails, Failure, fails-member, first-failure}
 use Rattle.meaning.proofs.Checks.{FailsWith}

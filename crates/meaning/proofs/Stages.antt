@@ -13,13 +13,13 @@ use Rattle.meaning.specs.Lists.{written}
 use Rattle.meaning.specs.Records.{Record, recordsOf, controller}
 use Rattle.meaning.specs.Table.{tableOf}
 use Rattle.meaning.specs.Counting.{Position, below, startPosition}
-use Rattle.meaning.specs.Rounds.{Set, allSafe, winning}
+use Rattle.meaning.specs.Rounds.{Set, allSafe, winning, FirstSet}
 use Rattle.meaning.specs.Written.{winners, winnersBytes, covering, startState, rowBytes, controllerRows}
 use Rattle.meaning.specs.Join.{joined, pairs}
 use Rattle.meaning.specs.Answers.{codeOf, startOf, Check, Solved, solvedFrom, solveChecks, partsChecks}
 use Rattle.meaning.specs.Play.{Strategy, Wins, rowsIn, follow}
 use Rattle.meaning.proofs.Lists.{place-holds, place-found}
-use Rattle.meaning.proofs.Rounds.{FirstSet, allSafe-first}
+use Rattle.meaning.proofs.Rounds.{allSafe-first}
 use Rattle.meaning.proofs.Maximal.{winning-covered, StartCovered}
 use Rattle.meaning.proofs.Good.{Good}
 use Rattle.meaning.proofs.Winning.{keeps-down, winning-wins}

@@ -3,7 +3,7 @@
 use mathlib.Core.Bool.{Bool, cond}
 use mathlib.Core.List.{List}
 use Prim.Native.Nat.{ℕ, zero, suc, _+_, _-_, min}
-use lib.ListN.{length, getD}
+use lib.ListN.{length, getD, replicate}
 use lib.IntN.{ℤ, pos, negsuc}
 use lib.Dec.{leb}
 use Rattle.meaning.specs.Lists.{each, largest, smallest, tab}
@@ -16,6 +16,10 @@ oneHigher (negsuc c) = 0
 
 abbrev pub Position : Type 0
 Position = List ℕ
+
+-- the position with -1 everywhere
+abbrev pub nowhere : ℕ → Position
+nowhere n = replicate n 0
 
 -- the count of state q
 abbrev pub count : Position → ℕ → ℕ

@@ -12,12 +12,12 @@ use native.Mathlib.Omega.{arith}
 use lib.ListN.{length, length-map}
 use Rattle.meaning.specs.Table.{Half, Table, onOutput, onInput}
 use Rattle.meaning.specs.Counting.{Position, back}
-use Rattle.meaning.specs.Rounds.{Set, allSafe, setA, setB, setW, rounds, winning, maximalMembers, full}
+use Rattle.meaning.specs.Rounds.{Set, allSafe, setA, setB, setW, rounds, winning, maximalMembers, full, Down, Within, FirstSet}
 use Rattle.meaning.specs.Written.{positionBytes, winners}
 use Rattle.meaning.proofs.Tests.{refuted, below-last}
 use Rattle.meaning.proofs.Steps.{back-length}
 use Rattle.meaning.proofs.Positions.{allSafe-length}
-use Rattle.meaning.proofs.Rounds.{Down, Within, FirstSet, setA-safe, setB-safe}
+use Rattle.meaning.proofs.Rounds.{setA-safe, setB-safe}
 use Rattle.meaning.proofs.Rounds.{setW-down, setW-safe, rounds-bound, rounds-settled, rounds-smallest}
 use Rattle.meaning.proofs.Maximal.{member-in, members-determine, members-same}
 use Rattle.meaning.proofs.Full.{Crowded, in-W, in-A, in-B, full-exactly}

@@ -7,12 +7,12 @@ use mathlib.Core.List.{List, [], _∷_, Memᴰ·cast, List·Memᴰ}
 use Prim.Native.Nat.{ℕ}
 use lib.ListN.{length}
 use borrow.Author.Tests.{not-true}
-use Rattle.meaning.specs.Lists.{keep}
+use Rattle.meaning.specs.Lists.{keep, Ascending}
 use Rattle.meaning.specs.Counting.{Position, below}
 use Rattle.meaning.proofs.Tests.{clash, decided, either-left, either-right, either-cases}
 use Rattle.meaning.proofs.Lists.{every-at, every-of, keep-member, keep-holds, keep-of}
 use Rattle.meaning.proofs.Steps.{below-refl, below-antisym}
-use Rattle.meaning.proofs.Ascending.{Ascending, ascending-equal}
+use Rattle.meaning.proofs.Ascending.{ascending-equal}
 use Rattle.sets.specs.Tops.{put, top, tops}
 use Rattle.sets.proofs.Put.{member-put, put-ascends, gathered-member, member-gathered, gathered-ascends}
 

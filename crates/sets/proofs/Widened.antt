@@ -6,10 +6,9 @@ use mathlib.Core.List.{List, [], _∷_, _++_, map, flatMap, map-map, map-append,
 use mathlib.Core.List.{List·Memᴰ, List·Memᴰ·head, List·Memᴰ·tail}
 use Prim.Native.Nat.{ℕ, _≤_}
 use lib.ListN.{length}
-use Rattle.meaning.specs.Lists.{before}
+use Rattle.meaning.specs.Lists.{before, Ascending, none, more}
 use Rattle.meaning.specs.Counting.{Position, below}
 use Rattle.meaning.specs.Written.{positionBytes}
-use Rattle.meaning.proofs.Ascending.{Ascending, none, more}
 use Rattle.counts.specs.Cells.{lesserCounts}
 use Rattle.counts.proofs.Wide.{wide-length, below-wide, before-wide}
 use Rattle.sets.specs.Tops.{tops, meets}
