@@ -24,8 +24,8 @@ use Rattle.meaning.proofs.Maximal.{member-in, climb}
 use Rattle.meaning.proofs.Checks.{Passes}
 use Rattle.meaning.proofs.Sound.{passes-sound, passes-good, states-top}
 use Rattle.counts.proofs.Wide.{below-wide}
-use Rattle.sets.specs.Engine.{brim}
-use Rattle.sets.proofs.Engine.{Small, StandsFor, allSafe-stands}
+use Rattle.sets.specs.Engine.{brim, Small, StandsFor}
+use Rattle.sets.proofs.Engine.{allSafe-stands}
 use Rattle.game.specs.Rounds.{coveredBy, FirstList}
 
 -- the list of a set covers exactly the set

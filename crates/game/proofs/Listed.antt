@@ -26,7 +26,8 @@ use Rattle.meaning.proofs.Maximal.{member-in, climb}
 use Rattle.meaning.proofs.Good.{Good}
 use Rattle.meaning.proofs.Rows.{output-letter, winner-wins}
 use Rattle.counts.proofs.Wide.{wide-count, wide-of-wide, below-counts, forward-counts}
-use Rattle.sets.proofs.Engine.{Small, members-sized}
+use Rattle.sets.specs.Engine.{Small}
+use Rattle.sets.proofs.Engine.{members-sized}
 use Rattle.game.specs.Finished.{under, rowsFrom, answered, finished, Playable, Roomy}
 use Rattle.game.proofs.Bytes.{getD-inside}
 

@@ -26,7 +26,7 @@ use Rattle.table.specs.declared.Checked.the-variants.{Fails}
 use Rattle.table.specs.Checked.{checkedOf}
 use Rattle.table.proofs.Judged.{byChecked, failedCheck, judge-checked}
 use Rattle.sets.specs.Members.{members}
-use Rattle.sets.proofs.Engine.{Small}
+use Rattle.sets.specs.Engine.{Small}
 use Rattle.game.specs.Rounds.{Settles}
 use Rattle.game.specs.Finished.{finished, leaves, Playable, Roomy}
 use Rattle.game.specs.declared.rounds.Settled.{Settled}

@@ -32,7 +32,8 @@ use Rattle.table.specs.declared.Table as T
 use Rattle.table.specs.Packed.{tableIn, packed}
 use Rattle.table.proofs.Good.{good-table}
 use Rattle.sets.specs.Members.{members}
-use Rattle.sets.proofs.Engine.{Small, stands-length, members-sized}
+use Rattle.sets.specs.Engine.{Small}
+use Rattle.sets.proofs.Engine.{stands-length, members-sized}
 use Rattle.game.specs.declared.rounds.Settled.{Settled}
 use Rattle.game.specs.declared.rounds.Settled.the-variants as S
 use Rattle.game.specs.Rounds.{coveredBy, FirstList, Settles}
