@@ -24,8 +24,8 @@ use Rattle.meaning.proofs.Full.{Crowded, in-W, in-A, in-B, full-exactly}
 use Rattle.counts.proofs.Wide.{wide-at, wide-same, back-reads}
 use Rattle.sets.specs.Tops.{tops, meets}
 use Rattle.sets.specs.Engine.{Small, StandsFor, backWide, cutBy, widenBy, brim, listA, listB, nextList}
-use Rattle.sets.proofs.Kept.{Sized}
-use Rattle.sets.proofs.Thinned.{meets-sized, append-sized}
+use Rattle.sets.proofs.Kept.{Sized, append-sized}
+use Rattle.sets.proofs.Meets.{meets-sized}
 use Rattle.sets.proofs.Widened.{tops-wide, meets-wide}
 use Rattle.sets.proofs.Letters.{allSafe-brim, setA-none, setA-cut, setB-none, setB-widen}
 

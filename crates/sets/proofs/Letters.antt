@@ -24,7 +24,7 @@ use Rattle.sets.specs.Tops.{tops, meets}
 use Rattle.sets.specs.Engine.{brim}
 use Rattle.counts.proofs.Lesser.{lesser-length, lesser-left, lesser-right, lesser-of}
 use Rattle.sets.proofs.Kept.{Covered, tops-only, tops-one}
-use Rattle.sets.proofs.Thinned.{meets-member, member-meets}
+use Rattle.sets.proofs.Meets.{meets-member, member-meets}
 
 -- a list of members that covers the whole set has the set's maximal members as its tops
 pub members-tops : (K n : ℕ) (X : Set) → Within X (allSafe K n) → (Fs : List Position) → ((F : Position) → List·Memᴰ F Fs → X F ≡ true)

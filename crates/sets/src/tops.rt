@@ -9,12 +9,12 @@ ghost use mathlib.Core.List.{[], map, reverse};
 ghost use Prim.Native.Nat.{_≤_, _-_};
 ghost use lib.ListN.{length};
 ghost use Rattle.meaning.specs.Lists.{keep};
-ghost use Rattle.meaning.specs.Counting.{below};
+ghost use Rattle.meaning.specs.Counting.{below, covered};
 ghost use Rattle.counts.specs.Cells.{lesserCounts};
 ghost use Rattle.sets.specs.Tops.{meets, thinned};
 ghost use Rattle.counts.specs.Words.{countsIn};
 ghost use Rattle.sets.specs.Members.{words as wordsOf, HoldsWords};
-ghost use Rattle.sets.specs.Climb.{climbed, collected, covering, uncovered, rowsOf, paired, united};
+ghost use Rattle.sets.specs.Candidates.{climbed, collected, uncovered, rowsOf, paired, united};
 
 // How many members a list came to, or that there were more than the room.
 pub enum Found {
@@ -56,12 +56,12 @@ fn part(
     n: usize,
     others: &[u64],
     m: usize,
-    covered: &mut [u64],
+    taken: &mut [u64],
     rest: &mut [u64],
 ) -> usize
-    requires { ⌜ (n ≤ length (now set)) × (m ≤ length (now others)) × (n ≤ length (now covered)) × (n ≤ length (now rest)) ⌝ }
+    requires { ⌜ (n ≤ length (now set)) × (m ≤ length (now others)) × (n ≤ length (now taken)) × (n ≤ length (now rest)) ⌝ }
     ensures { λ r. ⌜ (r ≤ n)
-        × (wordsOf (now (covered .exit)) r ≡ keep (covering (wordsOf (now (others .entry)) m)) (wordsOf (now (set .entry)) n))
+        × (wordsOf (now (taken .exit)) r ≡ keep (covered (wordsOf (now (others .entry)) m)) (wordsOf (now (set .entry)) n))
         × (wordsOf (now (rest .exit)) (n - r) ≡ keep (uncovered (wordsOf (now (others .entry)) m)) (wordsOf (now (set .entry)) n)) ⌝ }
 {
     let mut held = 0;
@@ -69,7 +69,7 @@ fn part(
     while i < n {
         let p = set[i];
         if words::covers(others, m, p) {
-            covered[held] = p;
+            taken[held] = p;
             held += 1;
         } else {
             rest[i - held] = p;
@@ -228,8 +228,8 @@ pub fn together(b: &[u64], bn: usize, e: &[u64], en: usize, out: &mut [u64], roo
     requires { ⌜ (bn ≤ length (now b)) × (bn ≤ 256) × (en ≤ length (now e)) × (room ≤ length (now out)) × (256 ≤ length (now out)) ⌝ }
     ensures { λ r. ⌜ HoldsWords room (united (wordsOf (now (b .entry)) bn) (wordsOf (now (e .entry)) en)) (now (out .exit)) r ⌝ }
 {
-    let mut covered = [0u64; 256];
-    let gone = part(b, bn, e, en, &mut covered, out);
+    let mut dropped = [0u64; 256];
+    let gone = part(b, bn, e, en, &mut dropped, out);
     if room < bn - gone {
         return Found::Full;
     }

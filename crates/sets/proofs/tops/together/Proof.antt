@@ -8,7 +8,7 @@ use borrow.Author.Needs.{needs}
 use lib.ListN.{length}
 use Rattle.meaning.specs.Lists.{keep}
 use Rattle.sets.specs.Members.{words}
-use Rattle.sets.specs.Climb.{uncovered, united}
+use Rattle.sets.specs.Candidates.{uncovered, united}
 use Rattle.sets.proofs.Members.{words-length, held-full}
 use Rattle.sets.proofs.Collect.{collected-grows}
 use Rattle.sets.proofs.tops.together.Statement.{statement}
