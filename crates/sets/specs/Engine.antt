@@ -22,12 +22,12 @@ StandsFor K n X l = l ≡ map positionBytes (maximalMembers K n X)
 abbrev pub backWide : ℕ → Half → Position → Position
 backWide K h F = positionBytes (back K h F)
 
--- one cut of A by an input, and one widening of B by an output
+-- one cut of A by an input, and one widening of B by an output: from the members of the set that the letter leads into, and the list
 unfoldable pub cutBy : ℕ → Half → List Position → List Position → List Position
-cutBy K h ws vs = tops (meets vs (map (backWide K h) ws))
+cutBy K h into l = tops (meets l (map (backWide K h) into))
 
 unfoldable pub widenBy : ℕ → Half → List Position → List Position → List Position
-widenBy K h vs bs = tops (bs ++ map (backWide K h) vs)
+widenBy K h into l = tops (l ++ map (backWide K h) into)
 
 -- the one maximal safe position: K everywhere
 abbrev pub brim : ℕ → ℕ → Position

@@ -204,34 +204,41 @@ fn keep_rows(
 
 // The maximal ones of the lesser counts of all pairs of two lists. A position that the other list
 // covers is a pair itself, and its other pairs are below it: what is left to pair are the rest.
-pub fn pairs(a: &[u64], an: usize, e: &[u64], en: usize, out: &mut [u64], room: usize) -> Found
-    requires { ⌜ (an ≤ length (now a)) × (an ≤ 256) × (en ≤ length (now e)) × (en ≤ 256) × (room ≤ length (now out)) × (256 ≤ length (now out)) ⌝ }
-    ensures { λ r. ⌜ HoldsWords room (paired (wordsOf (now (a .entry)) an) (wordsOf (now (e .entry)) en)) (now (out .exit)) r ⌝ }
+pub fn pairs(set: &[u64], n: usize, backs: &[u64], m: usize, out: &mut [u64], room: usize) -> Found
+    requires { ⌜ (n ≤ length (now set)) × (n ≤ 256) × (m ≤ length (now backs)) × (m ≤ 256) × (room ≤ length (now out)) × (256 ≤ length (now out)) ⌝ }
+    ensures { λ r. ⌜ HoldsWords room (paired (wordsOf (now (set .entry)) n) (wordsOf (now (backs .entry)) m)) (now (out .exit)) r ⌝ }
 {
     let mut xs = [0u64; 256];
-    let whole = part(a, an, e, en, out, &mut xs);
+    let whole = part(set, n, backs, m, out, &mut xs);
     if room < whole {
         return Found::Full;
     }
     let mut fits = [0u64; 256];
     let mut ys = [0u64; 256];
-    let fitting = part(e, en, a, an, &mut fits, &mut ys);
+    let fitting = part(backs, m, set, n, &mut fits, &mut ys);
     let found = keep_list(&fits, fitting, out, whole, room);
-    let Found::Number(n) = found else {
+    let Found::Number(kept) = found else {
         return Found::Full;
     };
-    keep_rows(&xs, an - whole, &ys, en - fitting, out, n, room)
+    keep_rows(&xs, n - whole, &ys, m - fitting, out, kept, room)
 }
 
 // The maximal ones of two lists together.
-pub fn together(b: &[u64], bn: usize, e: &[u64], en: usize, out: &mut [u64], room: usize) -> Found
-    requires { ⌜ (bn ≤ length (now b)) × (bn ≤ 256) × (en ≤ length (now e)) × (room ≤ length (now out)) × (256 ≤ length (now out)) ⌝ }
-    ensures { λ r. ⌜ HoldsWords room (united (wordsOf (now (b .entry)) bn) (wordsOf (now (e .entry)) en)) (now (out .exit)) r ⌝ }
+pub fn together(
+    set: &[u64],
+    n: usize,
+    backs: &[u64],
+    m: usize,
+    out: &mut [u64],
+    room: usize,
+) -> Found
+    requires { ⌜ (n ≤ length (now set)) × (n ≤ 256) × (m ≤ length (now backs)) × (room ≤ length (now out)) × (256 ≤ length (now out)) ⌝ }
+    ensures { λ r. ⌜ HoldsWords room (united (wordsOf (now (set .entry)) n) (wordsOf (now (backs .entry)) m)) (now (out .exit)) r ⌝ }
 {
     let mut dropped = [0u64; 256];
-    let gone = part(b, bn, e, en, &mut dropped, out);
-    if room < bn - gone {
+    let gone = part(set, n, backs, m, &mut dropped, out);
+    if room < n - gone {
         return Found::Full;
     }
-    keep_list(e, en, out, bn - gone, room)
+    keep_list(backs, m, out, n - gone, room)
 }

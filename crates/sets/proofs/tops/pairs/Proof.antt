@@ -19,8 +19,8 @@ whole-kept : (c : tie.After-keep-list) →
     let second = c .before .before .before .before .before in
     let first = second .before .before .before .before .before .before .before in
     let given = first .before .before .before .before .before .before .args in
-    let A = words (given .a .now) (given .an) in
-    let E = words (given .e .now) (given .en) in
+    let A = words (given .set .now) (given .n) in
+    let E = words (given .backs .now) (given .m) in
     HoldsWords (given .room) (collected [] (keep (covered E) A) (keep (covered A) E)) (c .keep-list .last .1 .1 .0) (c .keep-list .result)
 whole-kept c =
     let second = c .before .before .before .before .before in
@@ -41,8 +41,8 @@ unfolding paired
 returns c =
     let called = c .before .before .before .before in
     let given = called .before .before .before .before .before .before .args in
-    let A = words (given .a .now) (given .an) in
-    let E = words (given .e .now) (given .en) in
+    let A = words (given .set .now) (given .n) in
+    let E = words (given .backs .now) (given .m) in
     held-full
     (omega (
       arith,
@@ -83,8 +83,8 @@ returns-2 c =
     let second = called .before .before .before .before .before in
     let first = second .before .before .before .before .before .before .before in
     let given = first .before .before .before .before .before .before .args in
-    let A = words (given .a .now) (given .an) in
-    let E = words (given .e .now) (given .en) in
+    let A = words (given .set .now) (given .n) in
+    let E = words (given .backs .now) (given .m) in
     held-full
     (omega (
       arith,
