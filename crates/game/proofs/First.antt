@@ -13,18 +13,18 @@ use Rattle.meaning.specs.Lists.{any}
 use Rattle.meaning.specs.Records.{recordsOf, controller, world}
 use Rattle.meaning.specs.Table.{Table, tableOf}
 use Rattle.meaning.specs.Counting.{Position, below}
-use Rattle.meaning.specs.Rounds.{Set, allSafe, maximalMembers}
+use Rattle.meaning.specs.Rounds.{Set, allSafe, maximalMembers, Down, Within, FirstSet}
 use Rattle.meaning.specs.Written.{positionBytes}
 use Rattle.meaning.specs.Checks.{tableChecks, Passes}
 use Rattle.meaning.proofs.Tests.{both, both-left, both-right, same-test}
 use Rattle.meaning.proofs.Lists.{any-at, any-of}
 use Rattle.meaning.proofs.Positions.{allSafe-length}
-use Rattle.meaning.proofs.Rounds.{Down, Within, FirstSet, allSafe-first}
+use Rattle.meaning.proofs.Rounds.{allSafe-first}
 use Rattle.meaning.proofs.Maximal.{member-in, climb}
 use Rattle.meaning.proofs.Sound.{passes-sound, passes-good, states-top}
 use Rattle.counts.proofs.Wide.{below-wide}
-use Rattle.sets.specs.Engine.{brim}
-use Rattle.sets.proofs.Engine.{Small, StandsFor, allSafe-stands}
+use Rattle.sets.specs.Engine.{brim, Small, StandsFor}
+use Rattle.sets.proofs.Engine.{allSafe-stands}
 use Rattle.game.specs.Rounds.{coveredBy, FirstList}
 
 -- the list of a set covers exactly the set

@@ -15,19 +15,20 @@ use Rattle.meaning.specs.declared.Refusal.the-variants.{Nothing}
 use Rattle.meaning.specs.Lists.{any, place, written}
 use Rattle.meaning.specs.Table.{Table, onOutput, onInput}
 use Rattle.meaning.specs.Counting.{Position, count, forward, below}
-use Rattle.meaning.specs.Rounds.{Set, winning, rounds, full}
+use Rattle.meaning.specs.Rounds.{Set, winning, rounds, full, FirstSet}
 use Rattle.meaning.specs.Written.{Row, positionBytes, winners, winnersBytes, covering, afterRound, outputOf, startState, rowBytes, rowsOfState, controllerRows, stateOrder}
 use Rattle.meaning.specs.Answers.{Solved, unsolved, solvedFrom}
 use Rattle.meaning.specs.Checks.{check, judge, stageChecks, room}
 use Rattle.meaning.proofs.Tests.{neither-left, neither-right, same-test, each-same, first-same}
 use Rattle.meaning.proofs.Lists.{tab-same, any-at, any-of, member-at}
 use Rattle.meaning.proofs.Steps.{forward-length}
-use Rattle.meaning.proofs.Rounds.{FirstSet, winning-down, winning-safe}
+use Rattle.meaning.proofs.Rounds.{winning-down, winning-safe}
 use Rattle.meaning.proofs.Maximal.{member-in, climb}
 use Rattle.meaning.proofs.Good.{Good}
 use Rattle.meaning.proofs.Rows.{output-letter, winner-wins}
 use Rattle.counts.proofs.Wide.{wide-count, wide-of-wide, below-counts, forward-counts}
-use Rattle.sets.proofs.Engine.{Small, members-sized}
+use Rattle.sets.specs.Engine.{Small}
+use Rattle.sets.proofs.Engine.{members-sized}
 use Rattle.game.specs.Finished.{under, rowsFrom, answered, finished, Playable, Roomy}
 use Rattle.game.proofs.Bytes.{getD-inside}
 

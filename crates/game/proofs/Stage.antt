@@ -15,11 +15,10 @@ use Rattle.meaning.specs.declared.Refusal.{Refusal}
 use Rattle.meaning.specs.declared.Refusal.the-variants.{Bound, Room, Full}
 use Rattle.meaning.specs.Records.{recordsOf, output, input}
 use Rattle.meaning.specs.Table.{Table, tableOf}
-use Rattle.meaning.specs.Rounds.{Set}
+use Rattle.meaning.specs.Rounds.{Set, FirstSet}
 use Rattle.meaning.specs.Answers.{refused, Solved, unsolved, solvedFrom}
 use Rattle.meaning.specs.Checks.{Check, check, judge, bound, room, tableChecks, stageChecks, Passes}
 use Rattle.meaning.proofs.Tests.{neither-left, neither-right}
-use Rattle.meaning.proofs.Rounds.{FirstSet}
 use Rattle.meaning.proofs.Good.{Good}
 use Rattle.meaning.proofs.Records.{letters-top}
 use Rattle.meaning.proofs.Checks.{judge-passes, judge-append}
@@ -28,7 +27,7 @@ use Rattle.table.specs.declared.Checked.the-variants.{Fails}
 use Rattle.table.specs.Checked.{checkedOf}
 use Rattle.table.proofs.Judged.{byChecked, failedCheck, judge-checked}
 use Rattle.sets.specs.Members.{members}
-use Rattle.sets.proofs.Engine.{Small}
+use Rattle.sets.specs.Engine.{Small}
 use Rattle.game.specs.Rounds.{Settles}
 use Rattle.game.specs.Finished.{finished, leaves, Playable, Roomy}
 use Rattle.game.specs.declared.rounds.Settled.{Settled}

@@ -9,14 +9,12 @@ use lib.ListN.{length}
 use Rattle.meaning.specs.Lists.{any, largest}
 use Rattle.meaning.specs.Table.{Table}
 use Rattle.meaning.specs.Counting.{Position, below}
-use Rattle.meaning.specs.Rounds.{Set, rounds, full}
+use Rattle.meaning.specs.Rounds.{Set, rounds, full, FirstSet}
 use Rattle.meaning.specs.Written.{positionBytes, winners}
-use Rattle.meaning.proofs.Rounds.{FirstSet}
-use Rattle.sets.specs.Engine.{listA, listB}
+use Rattle.sets.specs.Engine.{listA, listB, Small, StandsFor}
 use Rattle.sets.specs.Members.{members}
 use Rattle.sets.specs.declared.tops.Found.{Found}
 use Rattle.sets.specs.declared.tops.Found.the-variants.{Number, Full}
-use Rattle.sets.proofs.Engine.{Small, StandsFor}
 use Rattle.game.specs.declared.rounds.Settled.{Settled}
 use Rattle.game.specs.declared.rounds.Settled.the-variants.{After, Full as FullAfter}
 

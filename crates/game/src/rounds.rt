@@ -13,9 +13,8 @@ ghost use Rattle.meaning.specs.Rounds.{allSafe};
 ghost use Rattle.meaning.specs.Written.{positionBytes};
 ghost use Rattle.counts.specs.Cells.{cells};
 ghost use Rattle.table.specs.Packed.{tableIn};
-ghost use Rattle.sets.specs.Engine.{brim as brimOf, listA, listB, nextList};
+ghost use Rattle.sets.specs.Engine.{brim as brimOf, listA, listB, nextList, Small};
 ghost use Rattle.sets.specs.Members.{members};
-ghost use Rattle.sets.proofs.Engine.{Small};
 ghost use Rattle.game.specs.Rounds.{coveredBy, FirstList, widestA, widestB, widestOf, HoldsLast, Settles};
 
 // How the rounds end: FULL, or after so many rounds with so many winners.

@@ -11,7 +11,7 @@ use borrow.Author.Tests.{ne-eqb}
 use Rattle.meaning.specs.declared.Answer.{Answer}
 use Rattle.meaning.specs.declared.Refusal.the-variants as R
 use Rattle.meaning.specs.Table.{Table}
-use Rattle.meaning.specs.Rounds.{Set}
+use Rattle.meaning.specs.Rounds.{Set, FirstSet}
 use Rattle.meaning.specs.Written.{winners}
 use Rattle.meaning.specs.Answers.{refused, unsolved}
 use Rattle.meaning.specs.Checks.{Check, judge, stageChecks}

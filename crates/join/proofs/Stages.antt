@@ -13,7 +13,7 @@ use Rattle.meaning.specs.declared.Refusal.the-variants.{Full}
 use Rattle.meaning.specs.Records.{recordsOf, output, input}
 use Rattle.meaning.specs.Table.{Table, tableOf, stated}
 use Rattle.meaning.specs.Counting.{Position}
-use Rattle.meaning.specs.Rounds.{Set, allSafe, winning, maximalMembers}
+use Rattle.meaning.specs.Rounds.{Set, allSafe, winning, maximalMembers, FirstSet}
 use Rattle.meaning.specs.Written.{positionBytes, winners}
 use Rattle.meaning.specs.Join.{joined, pairs, joinedBytes, joinedTable}
 use Rattle.meaning.specs.Answers.{unsolved, solvedFrom, parts}
@@ -32,7 +32,8 @@ use Rattle.table.specs.declared.Table as T
 use Rattle.table.specs.Packed.{tableIn, packed}
 use Rattle.table.proofs.Good.{good-table}
 use Rattle.sets.specs.Members.{members}
-use Rattle.sets.proofs.Engine.{Small, stands-length, members-sized}
+use Rattle.sets.specs.Engine.{Small}
+use Rattle.sets.proofs.Engine.{stands-length, members-sized}
 use Rattle.game.specs.declared.rounds.Settled.{Settled}
 use Rattle.game.specs.declared.rounds.Settled.the-variants as S
 use Rattle.game.specs.Rounds.{coveredBy, FirstList, Settles}

@@ -23,7 +23,7 @@ ghost use Rattle.table.specs.declared.Checked.{Checked};
 ghost use Rattle.table.specs.Packed.{tableIn};
 ghost use Rattle.table.specs.Checked.{checkedOf};
 ghost use Rattle.sets.specs.Members.{members};
-ghost use Rattle.sets.proofs.Engine.{Small};
+ghost use Rattle.sets.specs.Engine.{Small};
 ghost use Rattle.game.specs.Rounds.{Settles};
 ghost use Rattle.game.specs.Finished.{leaves};
 ghost use Rattle.join.specs.declared.pair.Paired.{Paired};

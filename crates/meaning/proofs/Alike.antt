@@ -14,7 +14,7 @@ use Rattle.meaning.specs.declared.Verdict.the-variants.{Realizable, Unre
 use Rattle.meaning.specs.Records.{recordsOf}
 use Rattle.meaning.specs.Table.{Table, stated}
 use Rattle.meaning.specs.Counting.{Position, startPosition}
-use Rattle.meaning.specs.Rounds.{Set, allSafe, winning}
+use Rattle.meaning.specs.Rounds.{Set, allSafe, winning, FirstSet}
 use Rattle.meaning.specs.Written.{winners, startState}
 use Rattle.meaning.specs.Join.{joinedTable, joinedBytes}
 use Rattle.meaning.specs.Checks.{Passes, bound, room, pairChecks}
@@ -22,7 +22,7 @@ use Rattle.meaning.specs.Answers.{codeOf, refused, Solved, unsolved, ans
 use Rattle.meaning.specs.Calls.{code}
 use Rattle.meaning.specs.Play.{Wins}
 use Rattle.meaning.proofs.Tests.{same-test}
-use Rattle.meaning.proofs.Rounds.{FirstSet, allSafe-first}
+use Rattle.meaning.proofs.Rounds.{allSafe-first}
 use Rattle.meaning.proofs.Winning.{winning-wins}
 use Rattle.meaning.proofs.Realizes.{start-length, start-covered}
 use Rattle.meaning.proofs.Sound.{sound-good, passes-first, passes-paired}

@@ -7,14 +7,9 @@ use mathlib.Core.List.{List, [], _∷_, _++_, map, Memᴰ·of-map, List·Memᴰ,
 use mathlib.Core.List.{List·Memᴰ·not-nil}
 use Prim.Native.Nat.{ℕ, _<_}
 use native.Mathlib.Omega.{arith}
-use Rattle.meaning.specs.Lists.{keep, before}
+use Rattle.meaning.specs.Lists.{keep, before, Ascending, none, more}
 use Rattle.meaning.proofs.Tests.{ordered-cases, ordered-of}
 use Rattle.meaning.proofs.Lists.{keep-one, keep-member}
-
--- each member comes before all later ones
-pub data Ascending : List (List ℕ) → Type 0 where
-  none : Ascending []
-  more : {x : List ℕ} {xs : List (List ℕ)} → ((y : List ℕ) → List·Memᴰ y xs → before x y ≡ true) → Ascending xs → Ascending (x ∷ xs)
 
 -- the first bytes decide, or are equal and the rest decides
 pub before-cases : (x y : ℕ) (xs ys : List ℕ) → before (x ∷ xs) (y ∷ ys) ≡ true → (x < y) ⊎ ((x ≡ y) × (before xs ys ≡ true))

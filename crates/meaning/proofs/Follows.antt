@@ -8,10 +8,10 @@ use lib.ListN.{length}
 use Rattle.meaning.specs.Lists.{first}
 use Rattle.meaning.specs.Table.{Table, onOutput, onInput}
 use Rattle.meaning.specs.Counting.{Position, forward}
-use Rattle.meaning.specs.Rounds.{Set, allSafe, setA, setB, setW, equal, rounds, winning}
+use Rattle.meaning.specs.Rounds.{Set, allSafe, setA, setB, setW, equal, rounds, winning, Within}
 use Rattle.meaning.proofs.Tests.{same-test, first-same}
 use Rattle.meaning.proofs.Positions.{allSafe-length}
-use Rattle.meaning.proofs.Rounds.{Within, setA-of, setA-safe, setA-leads, setB-of, setB-safe, setB-leads, allSafe-first, equal-at, equal-of}
+use Rattle.meaning.proofs.Rounds.{setA-of, setA-safe, setA-leads, setB-of, setB-safe, setB-leads, allSafe-first, equal-at, equal-of}
 use Rattle.meaning.proofs.Rounds.{setW-safe, winning-fixed, winning-within}
 
 -- each member of one set is carried to a member of the other

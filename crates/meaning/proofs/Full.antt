@@ -14,15 +14,15 @@ use lib.Dec.{eqb, ltb, lit<}
 use borrow.Author.Tests.{ltb-true, lt-ltb, ne-eqb}
 use Rattle.meaning.specs.declared.Refusal.the-variants.{Full, Nothing}
 use Rattle.meaning.specs.Lists.{largest}
-use Rattle.meaning.specs.Records.{recordsOf}
+use Rattle.meaning.specs.Records.{recordsOf, Record}
 use Rattle.meaning.specs.Table.{Table, tableOf, stated}
 use Rattle.meaning.specs.Rounds.{Set, allSafe, setA, setB, setW, maximalMembers, rounds, widthOfRound, full, Crowded, Overfull, in-W}
-use Rattle.meaning.specs.Rounds.{in-A, in-B}
+use Rattle.meaning.specs.Rounds.{in-A, in-B, FirstSet}
 use Rattle.meaning.specs.Written.{winners}
 use Rattle.meaning.specs.Join.{pairs, joinedTable}
 use Rattle.meaning.specs.Checks.{Check, bound, room, tableChecks, stageChecks, solveChecks, pairChecks, partsChecks, Passes, Fails}
 use Rattle.meaning.proofs.Tests.{both, clash, largest-passes, passes-largest}
-use Rattle.meaning.proofs.Rounds.{FirstSet, allSafe-first}
+use Rattle.meaning.proofs.Rounds.{allSafe-first}
 use Rattle.meaning.proofs.Maximal.{some-winner}
 use Rattle.meaning.proofs.Checks.{passes-member, passes-at, passes-left, passes-right, Failure, fails-member, first-failure}
 use Rattle.meaning.specs.Checks.{FailsWith, partsStages, check}

@@ -12,17 +12,17 @@ use native.Mathlib.Omega.{arith}
 use lib.ListN.{length-replicate, length, getD, set, length-set}
 use lib.Seq.{getD-set-same, getD-set-other}
 use borrow.Author.Tests.{not-true, not-false}
-use Rattle.meaning.specs.Lists.{any, place}
+use Rattle.meaning.specs.Lists.{any, place, Ascending}
 use Rattle.meaning.specs.Table.{Table}
-use Rattle.meaning.specs.Counting.{Position, count, below}
-use Rattle.meaning.specs.Rounds.{Set, allSafe, positions, maximal, maximalMembers, winning}
+use Rattle.meaning.specs.Counting.{Position, count, below, nowhere}
+use Rattle.meaning.specs.Rounds.{Set, allSafe, positions, maximal, maximalMembers, winning, Down, Within, FirstSet}
 use Rattle.meaning.specs.Written.{winners, covering, startState}
 use Rattle.meaning.proofs.Tests.{both, both-left, both-right, clash, decided, refuted, same-test}
 use Rattle.meaning.proofs.Lists.{member-at, at-member, any-at, any-of, keep-holds, keep-of, place-holds, place-found}
-use Rattle.meaning.proofs.Ascending.{Ascending, keep-ascends, ascending-equal}
-use Rattle.meaning.proofs.Steps.{nowhere, same-counts, below-at, below-of, below-refl, below-trans, below-antisym, safe-at}
+use Rattle.meaning.proofs.Ascending.{keep-ascends, ascending-equal}
+use Rattle.meaning.proofs.Steps.{same-counts, below-at, below-of, below-refl, below-trans, below-antisym, safe-at}
 use Rattle.meaning.proofs.Positions.{allSafe-length, allSafe-safe, positions-hold, positions-ascend}
-use Rattle.meaning.proofs.Rounds.{Down, Within, FirstSet, winning-down, winning-safe, winning-nowhere}
+use Rattle.meaning.proofs.Rounds.{winning-down, winning-safe, winning-nowhere}
 
 -- "raised by one in any single count"
 abbrev pub raise : Position → ℕ → Position

@@ -14,18 +14,18 @@ use lib.ListN.{length, getD, take, drop, length-map, List·getD-append}
 use lib.Seq.{getD-append-add, take-at, drop-at}
 use lib.Dec.{ltb}
 use borrow.Author.Tests.{ltb-true, ltb-false}
-use Rattle.meaning.specs.Lists.{before}
+use Rattle.meaning.specs.Lists.{before, Ascending, none, more}
 use Rattle.meaning.specs.Table.{Table}
 use Rattle.meaning.specs.Counting.{Position, count, below}
-use Rattle.meaning.specs.Rounds.{Set, allSafe, maximal, maximalMembers}
+use Rattle.meaning.specs.Rounds.{Set, allSafe, maximal, maximalMembers, Within}
 use Rattle.meaning.specs.Written.{winners, positionBytes}
 use Rattle.meaning.specs.Join.{pairs}
 use Rattle.meaning.proofs.Tests.{both, both-left, both-right}
 use Rattle.meaning.proofs.Steps.{count-beyond, below-refl}
-use Rattle.meaning.proofs.Ascending.{Ascending, none, more, before-cases, before-first, before-rest, append-ascends, cons-ascends}
+use Rattle.meaning.proofs.Ascending.{before-cases, before-first, before-rest, append-ascends, cons-ascends}
 use Rattle.meaning.proofs.Lists.{flatMap-member, member-flatMap, flatMap-length, map-at}
 use Rattle.meaning.proofs.Positions.{allSafe-length}
-use Rattle.meaning.proofs.Rounds.{Within, allSafe-first, winning-safe}
+use Rattle.meaning.proofs.Rounds.{allSafe-first, winning-safe}
 use Rattle.meaning.proofs.Maximal.{member-maximal, member-in, maximal-member, maximal-top, top-maximal, members-ascend, members-are}
 use Rattle.meaning.proofs.Readings.{bytes-at}
 use Rattle.meaning.proofs.Buffers.{position-bytes}

@@ -8,12 +8,11 @@ use native.Mathlib.Omega.{arith}
 use lib.ListN.{take, drop, length-take, length-drop, take-append-drop, length-replicate, replicate-append-replicate}
 use lib.Seq.{take-at, drop-at}
 use Rattle.meaning.specs.Table.{Table}
-use Rattle.meaning.specs.Counting.{Position}
-use Rattle.meaning.specs.Rounds.{Set, allSafe, setB, winning}
+use Rattle.meaning.specs.Counting.{Position, nowhere}
+use Rattle.meaning.specs.Rounds.{Set, allSafe, setB, winning, Down, Within, FirstSet}
 use Rattle.meaning.specs.Join.{pairs}
 use Rattle.meaning.proofs.Tests.{both, both-left, both-right, same-test}
-use Rattle.meaning.proofs.Steps.{nowhere}
-use Rattle.meaning.proofs.Rounds.{Down, Within, FirstSet, allSafe-first, winning-down, winning-safe, winning-nowhere, winning-fixed}
+use Rattle.meaning.proofs.Rounds.{allSafe-first, winning-down, winning-safe, winning-nowhere, winning-fixed}
 use Rattle.meaning.proofs.Rounds.{winning-greatest}
 use Rattle.meaning.proofs.Follows.{Carries, winningSet, follows-winning, follows-fixed}
 use Rattle.meaning.proofs.Union.{Union, below-halves, allSafe-append, controllers-sum, first-follows, second-follows}

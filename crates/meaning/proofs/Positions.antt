@@ -10,12 +10,12 @@ use native.Mathlib.Omega.{arith}
 use lib.ListN.{length, length-map}
 use lib.Dec.{eqb}
 use borrow.Author.Tests.{eqb-true, eq-eqb}
-use Rattle.meaning.specs.Lists.{tab, before}
+use Rattle.meaning.specs.Lists.{tab, before, Ascending, none, more}
 use Rattle.meaning.specs.Counting.{Position, count, safe}
 use Rattle.meaning.specs.Rounds.{allSafe, positions}
 use Rattle.meaning.proofs.Tests.{both, both-left, both-right}
 use Rattle.meaning.proofs.Lists.{tab-length, tab-member, member-tab, flatMap-member, member-flatMap, flatMap-length}
-use Rattle.meaning.proofs.Ascending.{Ascending, none, more, before-first, append-ascends, cons-ascends}
+use Rattle.meaning.proofs.Ascending.{before-first, append-ascends, cons-ascends}
 use Rattle.meaning.proofs.Steps.{safe-at, safe-of}
 
 -- a safe position of n states: its length and its counts

@@ -11,14 +11,13 @@ use lib.ListN.{length, List·getD-eq-default}
 use Rattle.meaning.specs.Records.{Record, blank, at, controller, ofKind}
 use Rattle.meaning.specs.Table.{Table, startIn, startsOf, tableOf}
 use Rattle.meaning.specs.Counting.{count, plus, startPosition}
-use Rattle.meaning.specs.Rounds.{Set, winning}
+use Rattle.meaning.specs.Rounds.{Set, winning, FirstSet}
 use Rattle.meaning.specs.Written.{startState}
 use Rattle.meaning.specs.Play.{Strategy, Legal, Keeps, Wins, Realizes, Realizable}
 use Rattle.meaning.specs.Play.Run.{round}
 use Rattle.meaning.proofs.Tests.{clash}
 use Rattle.meaning.proofs.Lists.{tab-length, tab-at}
 use Rattle.meaning.proofs.Steps.{run-within, plus-exact, run-over-edge}
-use Rattle.meaning.proofs.Rounds.{FirstSet}
 use Rattle.meaning.proofs.Maximal.{winning-covered, StartCovered}
 use Rattle.meaning.proofs.Good.{Good}
 

@@ -9,29 +9,14 @@ use native.Mathlib.Omega.{arith}
 use lib.ListN.{length, length-replicate}
 use Rattle.meaning.specs.Lists.{each, some, keep}
 use Rattle.meaning.specs.Table.{Table, onOutput, onInput}
-use Rattle.meaning.specs.Counting.{Position, forward, below}
-use Rattle.meaning.specs.Rounds.{Set, allSafe, setA, setB, setW, positions, equal, rounds, winning}
+use Rattle.meaning.specs.Counting.{Position, nowhere, forward, below}
+use Rattle.meaning.specs.Rounds.{Set, Down, Within, FirstSet, allSafe, setA, setB, setW, positions, equal, rounds, winning}
 use Rattle.meaning.proofs.Tests.{both, both-left, both-right, clash, same-test, agreed, agrees, each-at, each-of, some-at, some-of}
 use Rattle.meaning.proofs.Tests.{first-holds, first-before}
 use Rattle.meaning.proofs.Lists.{every-at, every-of}
 use Rattle.meaning.proofs.Sizes.{keep-length, keep-counted, keep-fewer}
-use Rattle.meaning.proofs.Steps.{nowhere, safe-down, safe-nowhere, forward-length, forward-mono, forward-nowhere}
+use Rattle.meaning.proofs.Steps.{safe-down, safe-nowhere, forward-length, forward-mono, forward-nowhere}
 use Rattle.meaning.proofs.Positions.{allSafe-length, allSafe-safe, allSafe-of, positions-hold, positions-number}
-
--- "Each set contains everything below its members"
-abbrev pub Down : Set → Type 0
-Down X = (F G : Position) → length F ≡ length G → below F G ≡ true → X G ≡ true → X F ≡ true
-
--- each member of one set is one of the other
-abbrev pub Within : Set → Set → Type 0
-Within X Y = (F : Position) → X F ≡ true → Y F ≡ true
-
--- what the rounds ask of a first set: a set of safe positions, downward, that the first round only shrinks, and that is not empty
-pub record FirstSet (K : ℕ) (t : Table) (X : Set) : Type 0 where
-  pub down : Down X
-  pub safe : Within X (allSafe K (t .controllers))
-  pub shrinks : Within (setB K t X (t .outputs)) X
-  pub nowhere : X (nowhere (t .controllers)) ≡ true
 
 -- safe positions
 pub allSafe-down : (K n : ℕ) → Down (allSafe K n)

@@ -12,7 +12,7 @@ use lib.ListN.{length, getD}
 use Rattle.meaning.specs.Records.{recordsOf}
 use Rattle.meaning.specs.Table.{Table, onOutput, onInput}
 use Rattle.meaning.specs.Counting.{Position, count, forward, safe, below}
-use Rattle.meaning.specs.Rounds.{Set, winning}
+use Rattle.meaning.specs.Rounds.{Set, winning, FirstSet}
 use Rattle.meaning.specs.Written.{winners, covering, afterRound, outputOf, startState, Row, rowBytes, rowsOfState, controllerRows}
 use Rattle.meaning.specs.Written.{leadsBack, rowsFrom, stateOrder}
 use Rattle.meaning.specs.Play.{Legal, Keeps, rowsIn, rowOutput, stateAfter, follow}
@@ -20,7 +20,7 @@ use Rattle.meaning.proofs.Tests.{each-at, each-of, first-holds, first-f
 use Rattle.meaning.proofs.Lists.{tab-length, member-at, place-holds, flatMap-length}
 use Rattle.meaning.proofs.Steps.{safe-at, safe-of, plus-from-safe, forward-length, forward-brings}
 use Rattle.meaning.proofs.Positions.{allSafe-safe}
-use Rattle.meaning.proofs.Rounds.{FirstSet, setA-leads, setB-leads, winning-safe, winning-fixed}
+use Rattle.meaning.proofs.Rounds.{setA-leads, setB-leads, winning-safe, winning-fixed}
 use Rattle.meaning.proofs.Maximal.{member-in, winning-covered, StartCovered}
 use Rattle.meaning.proofs.Good.{Good}
 use Rattle.meaning.proofs.Winning.{Guards, guards-keep}

@@ -13,14 +13,14 @@ use Rattle.meaning.specs.Lists.{written}
 use Rattle.meaning.specs.Records.{Record, recordsOf, controller}
 use Rattle.meaning.specs.Table.{tableOf, Table}
 use Rattle.meaning.specs.Counting.{Position, below, startPosition}
-use Rattle.meaning.specs.Rounds.{Set, allSafe, winning, SmallestRepeat}
+use Rattle.meaning.specs.Rounds.{Set, allSafe, winning, SmallestRepeat, FirstSet}
 use Rattle.meaning.specs.Written.{winners, winnersBytes, covering, startState, rowBytes, controllerRows}
 use Rattle.meaning.specs.Join.{joined, pairs}
 use Rattle.meaning.specs.Answers.{codeOf, Solved, solvedFrom, answered, unsolved}
 use Rattle.meaning.specs.Checks.{Check, solveChecks, partsChecks, Passes}
 use Rattle.meaning.specs.Play.{Wins, rowsIn, follow, Realizes, Realizable}
 use Rattle.meaning.proofs.Lists.{place-holds, place-found}
-use Rattle.meaning.proofs.Rounds.{FirstSet, allSafe-first, rounds-settled, rounds-smallest, rounds-bound}
+use Rattle.meaning.proofs.Rounds.{allSafe-first, rounds-settled, rounds-smallest, rounds-bound}
 use Rattle.meaning.proofs.Maximal.{winning-covered, StartCovered}
 use Rattle.meaning.proofs.Good.{Good}
 use Rattle.meaning.proofs.Winning.{keeps-down, winning-wins}

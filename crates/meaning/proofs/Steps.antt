@@ -9,18 +9,14 @@ use Prim.Native.Nat.{ℕ, zero, suc, _+_, _-_, _≤_, _<_, zero-le}
 use native.Mathlib.Nat.{eq-zero-or-pos, le-refl, le-trans, le-antisymm, not-suc-le-zero}
 use native.Mathlib.Decide.{decLt}
 use native.Mathlib.Omega.{arith}
-use lib.ListN.{length, replicate, length-replicate, List·getD-eq-default}
+use lib.ListN.{length, length-replicate, List·getD-eq-default}
 use lib.Seq.{ext-getD}
 use borrow.Author.Tests.{leb-true, le-leb}
 use Rattle.meaning.specs.Lists.{largest, smallest}
 use Rattle.meaning.specs.Table.{Half}
-use Rattle.meaning.specs.Counting.{Position, count, plus, forward, safe, below, back}
+use Rattle.meaning.specs.Counting.{Position, nowhere, count, plus, forward, safe, below, back}
 use Rattle.meaning.proofs.Tests.{cond-cases, each-at, each-of, largest-at, largest-of, largest-is, smallest-top, smallest-at, smallest-of}
 use Rattle.meaning.proofs.Lists.{tab-length, tab-at}
-
--- the position with -1 everywhere
-abbrev pub nowhere : ℕ → Position
-nowhere n = replicate n 0
 
 pub count-nowhere : (n q : ℕ) → count (nowhere n) q ≡ 0
 count-nowhere zero q = refl

@@ -9,15 +9,15 @@ use Prim.Native.Nat.{ℕ, suc, _+_, _≤_, max, zero-le}
 use native.Mathlib.Omega.{arith}
 use lib.ListN.{length, take, drop, length-append, length-take, length-drop}
 use lib.Dec.{ltb}
-use Rattle.meaning.specs.Lists.{largest}
+use Rattle.meaning.specs.Lists.{largest, Ascending, none, more}
 use Rattle.meaning.specs.Table.{Table}
 use Rattle.meaning.specs.Counting.{Position, below}
-use Rattle.meaning.specs.Rounds.{Set, allSafe, setA, setB, maximalMembers, rounds, winning, widthOfRound, full}
+use Rattle.meaning.specs.Rounds.{Set, allSafe, setA, setB, maximalMembers, rounds, winning, widthOfRound, full, Within}
 use Rattle.meaning.specs.Written.{winners}
 use Rattle.meaning.proofs.Tests.{both, largest-same}
-use Rattle.meaning.proofs.Ascending.{Ascending, none, more, before-irrefl}
+use Rattle.meaning.proofs.Ascending.{before-irrefl}
 use Rattle.meaning.proofs.Positions.{allSafe-length}
-use Rattle.meaning.proofs.Rounds.{Within, setA-safe, setB-safe}
+use Rattle.meaning.proofs.Rounds.{setA-safe, setB-safe}
 use Rattle.meaning.proofs.Maximal.{member-maximal, member-in, maximal-member, maximal-top, top-maximal, members-ascend}
 use Rattle.meaning.proofs.Follows.{Carries, fromSafe, fromSafe-safe, Follows, follows-setA, follows-setB, follows-safe}
 use Rattle.meaning.proofs.Union.{Union, below-append, below-halves, controllers-sum, worlds-sum}

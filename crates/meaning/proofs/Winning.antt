@@ -12,14 +12,14 @@ use lib.ListN.{length}
 use Rattle.meaning.specs.Lists.{first}
 use Rattle.meaning.specs.Table.{Table, onOutput, onInput}
 use Rattle.meaning.specs.Counting.{Position, count, forward, safe, below}
-use Rattle.meaning.specs.Rounds.{Set, allSafe, setA, setB, setW, rounds, winning}
+use Rattle.meaning.specs.Rounds.{Set, allSafe, setA, setB, setW, rounds, winning, Within, FirstSet}
 use Rattle.meaning.specs.Written.{afterRound}
 use Rattle.meaning.specs.Play.{Strategy, Run, Keeps, Wins}
 use Rattle.meaning.specs.Play.Run.{here, round}
 use Rattle.meaning.proofs.Tests.{first-holds, first-found}
 use Rattle.meaning.proofs.Steps.{below-at, below-refl, safe-at, safe-where, safe-down, forward-length, forward-from, forward-spends}
 use Rattle.meaning.proofs.Positions.{allSafe-safe, allSafe-of}
-use Rattle.meaning.proofs.Rounds.{Within, FirstSet, setA-of, setA-safe, setA-leads, setB-of, setB-safe, setB-leads, allSafe-first}
+use Rattle.meaning.proofs.Rounds.{setA-of, setA-safe, setA-leads, setB-of, setB-safe, setB-leads, allSafe-first}
 use Rattle.meaning.proofs.Rounds.{winning-fixed}
 use Rattle.meaning.proofs.Good.{Good}
 

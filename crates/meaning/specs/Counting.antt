@@ -3,10 +3,10 @@
 use mathlib.Core.Bool.{Bool, cond}
 use mathlib.Core.List.{List}
 use Prim.Native.Nat.{ℕ, zero, suc, _+_, _-_, min}
-use lib.ListN.{length, getD}
+use lib.ListN.{length, getD, replicate}
 use lib.IntN.{ℤ, pos, negsuc}
 use lib.Dec.{leb}
-use Rattle.meaning.specs.Lists.{each, largest, smallest, tab}
+use Rattle.meaning.specs.Lists.{each, largest, smallest, tab, any}
 use Rattle.meaning.specs.Table.{Half, Table}
 
 -- a signed count, written one higher
@@ -16,6 +16,10 @@ oneHigher (negsuc c) = 0
 
 abbrev pub Position : Type 0
 Position = List ℕ
+
+-- the position with -1 everywhere
+abbrev pub nowhere : ℕ → Position
+nowhere n = replicate n 0
 
 -- the count of state q
 abbrev pub count : Position → ℕ → ℕ
@@ -39,6 +43,10 @@ safe K F = each (length F) (λ q. leb (count F q) (K + 1))
 -- "One position is below another if each of its counts is at most the other's."
 unfoldable pub below : Position → Position → Bool
 below F G = each (length F) (λ q. leb (count F q) (count G q))
+
+-- a list covers a position: some one of its positions is above it
+abbrev pub covered : List Position → Position → Bool
+covered l F = any (below F) l
 
 -- "Step back: .. gives p the smallest of max(-1, count of q - mark of q) over the targets q of p on that letter" (a p with no
 -- target there is held by nothing but safety)

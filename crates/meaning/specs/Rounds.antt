@@ -1,17 +1,25 @@
 -- Document 01, "Rounds and their named sets". A set of positions is a test; the rounds take their first set as a parameter, since by
 -- parts replaces it.
 use mathlib.Core.Path.{_≡_}
-use mathlib.Core.Bool.{Bool, not, _&&_, Bool·beq}
+use mathlib.Core.Bool.{Bool, not, _&&_, Bool·beq, true}
 use mathlib.Core.List.{List, [], _∷_, map, flatMap}
 use Prim.Native.Nat.{ℕ, zero, suc, _+_, _^_, _≤_, _<_, max}
 use lib.ListN.{length}
 use lib.Dec.{eqb, ltb}
 use Rattle.meaning.specs.Lists.{each, some, first, largest, tab, keep, every, any}
 use Rattle.meaning.specs.Table.{Table, onOutput, onInput}
-use Rattle.meaning.specs.Counting.{Position, forward, safe, below}
+use Rattle.meaning.specs.Counting.{Position, nowhere, forward, safe, below}
 
 abbrev pub Set : Type 0
 Set = Position → Bool
+
+-- "Each set contains everything below its members"
+abbrev pub Down : Set → Type 0
+Down X = (F G : Position) → length F ≡ length G → below F G ≡ true → X G ≡ true → X F ≡ true
+
+-- each member of one set is one of the other
+abbrev pub Within : Set → Set → Type 0
+Within X Y = (F : Position) → X F ≡ true → Y F ≡ true
 
 -- "W(0) is all safe controller-turn positions": the safe positions of a side with n states
 unfoldable pub allSafe : ℕ → ℕ → Set
@@ -29,6 +37,14 @@ setB K t W k F = allSafe K (t .controllers) F && some k (λ o. setA K t W (t .in
 unfoldable pub setW : ℕ → Table → Set → ℕ → Set
 setW K t X zero = X
 setW K t X (suc r) = setB K t (setW K t X r) (t .outputs)
+
+-- what the rounds ask of a first set: safe positions, with everything below them, that the first round only shrinks, and among them the
+-- one with -1 everywhere
+pub record FirstSet (K : ℕ) (t : Table) (X : Set) : Type 0 where
+  pub down : Down X
+  pub safe : Within X (allSafe K (t .controllers))
+  pub shrinks : Within (setB K t X (t .outputs)) X
+  pub nowhere : X (nowhere (t .controllers)) ≡ true
 
 -- all safe positions of n states, "ascending as byte strings"
 unfoldable pub positions : ℕ → ℕ → List Position

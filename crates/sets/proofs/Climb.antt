@@ -9,7 +9,7 @@ use Rattle.meaning.specs.Counting.{Position, below}
 use Rattle.meaning.proofs.Tests.{clash, decided, refuted, cond-cases}
 use Rattle.meaning.proofs.Steps.{below-refl, below-trans}
 use Rattle.sets.specs.Tops.{top, tops}
-use Rattle.sets.specs.Climb.{climbed}
+use Rattle.sets.specs.Candidates.{climbed}
 use Rattle.sets.proofs.Kept.{Covered, top-of, tops-member}
 
 -- climbing along a list: whatever of it is over the position reached stands in the rest

@@ -9,14 +9,13 @@ use Prim.Native.Nat.{ℕ, _+_, _≤_, _<_}
 use native.Mathlib.Nat.{le-refl}
 use native.Mathlib.Omega.{arith}
 use lib.ListN.{length, set, length-append, length-set}
-use Rattle.meaning.specs.Lists.{any}
-use Rattle.meaning.specs.Counting.{Position, below}
+use Rattle.meaning.specs.Counting.{Position, covered}
 use Rattle.meaning.proofs.Tests.{decided}
 use Rattle.counts.specs.Cells.{lesserCounts}
 use Rattle.sets.specs.Tops.{meets, thinned}
 use Rattle.counts.specs.Words.{countsIn}
 use Rattle.sets.specs.Members.{words, HoldsWords}
-use Rattle.sets.specs.Climb.{climbed, keepOne, collected, rowsOf}
+use Rattle.sets.specs.Candidates.{climbed, keepOne, collected, rowsOf}
 use Rattle.sets.specs.declared.tops.Found.the-variants.{Number, Full}
 use Rattle.sets.proofs.Members.{words-length, words-store, words-hold, held-full}
 
@@ -28,11 +27,11 @@ collected-append Fs l (F ∷ xs) ys = collected-append Fs (keepOne Fs l F) xs ys
 
 -- one more that a kept one covers, and one more that none covers
 module _ (Fs l : List Position) (F : Position) where
-  keep-covered : any (below F) l ≡ true → keepOne Fs l F ≡ l
+  keep-covered : covered l F ≡ true → keepOne Fs l F ≡ l
   unfolding keepOne
   keep-covered e = rw e
 
-  keep-new : any (below F) l ≡ false → keepOne Fs l F ≡ l ++ climbed Fs F ∷ []
+  keep-new : covered l F ≡ false → keepOne Fs l F ≡ l ++ climbed Fs F ∷ []
   unfolding keepOne
   keep-new e = rw e
 
@@ -40,7 +39,7 @@ module _ (Fs l : List Position) (F : Position) where
   keep-grows : length l ≤ length (keepOne Fs l F)
   keep-grows =
       ⊎-elim (λ e. rw (keep-covered e) (le-refl (length l))) (λ e. rw (keep-new e, length-append l (climbed Fs F ∷ [])) (omega arith))
-      (decided (any (below F) l))
+      (decided (covered l F))
 
 pub collected-grows : (Fs l rest : List Position) → length l ≤ length (collected Fs l rest)
 unfolding collected
@@ -76,12 +75,12 @@ module _ {Fs l seen : List Position} {room : ℕ} {old out : List ℕ} {n : ℕ}
 
   -- one more candidate: a kept one covers it, or it is new
   module _ (F : Position) where
-    pub collects-pass : any (below F) (words out n) ≡ true → Collects Fs l (seen ++ F ∷ []) room old out n
+    pub collects-pass : covered (words out n) F ≡ true → Collects Fs l (seen ++ F ∷ []) room old out n
     unfolding collected
     collects-pass c =
         record { within = so-far .within; long = so-far .long; holds = sym (onward (F ∷ []) ∙ keep-covered Fs (words out n) F c) }
 
-    module _ (new : any (below F) (words out n) ≡ false) (h : room ≤ length old) where
+    module _ (new : covered (words out n) F ≡ false) (h : room ≤ length old) where
       pub collects-put : (top : ℕ) → countsIn top ≡ climbed Fs F → n < room → Collects Fs l (seen ++ F ∷ []) room old (set out n top) (n + 1)
       unfolding collected
       collects-put top climb k =

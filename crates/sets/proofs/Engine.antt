@@ -12,34 +12,25 @@ use native.Mathlib.Omega.{arith}
 use lib.ListN.{length, length-map}
 use Rattle.meaning.specs.Table.{Half, Table, onOutput, onInput}
 use Rattle.meaning.specs.Counting.{Position, back}
-use Rattle.meaning.specs.Rounds.{Set, allSafe, setA, setB, setW, rounds, winning, maximalMembers, full, Crowded}
+use Rattle.meaning.specs.Rounds.{Set, allSafe, setA, setB, setW, rounds, winning, maximalMembers, full, Crowded, Down, Within, FirstSet}
 use Rattle.meaning.specs.Written.{positionBytes, winners}
 use Rattle.meaning.proofs.Tests.{refuted, below-last}
 use Rattle.meaning.proofs.Steps.{back-length}
 use Rattle.meaning.proofs.Positions.{allSafe-length}
-use Rattle.meaning.proofs.Rounds.{Down, Within, FirstSet, setA-safe, setB-safe}
+use Rattle.meaning.proofs.Rounds.{setA-safe, setB-safe}
 use Rattle.meaning.proofs.Rounds.{setW-down, setW-safe, rounds-bound, rounds-settled, rounds-smallest}
 use Rattle.meaning.proofs.Maximal.{member-in, members-determine, members-same}
 use Rattle.meaning.proofs.Full.{in-W, in-A, in-B, full-exactly}
 use Rattle.counts.proofs.Wide.{wide-at, wide-same, back-reads}
 use Rattle.sets.specs.Tops.{tops, meets}
-use Rattle.sets.specs.Engine.{backWide, cutBy, widenBy, brim, listA, listB, nextList}
-use Rattle.sets.proofs.Kept.{Sized}
-use Rattle.sets.proofs.Thinned.{meets-sized, append-sized}
+use Rattle.sets.specs.Engine.{Small, StandsFor, backWide, cutBy, widenBy, brim, listA, listB, nextList}
+use Rattle.sets.proofs.Kept.{Sized, append-sized}
+use Rattle.sets.proofs.Meets.{meets-sized}
 use Rattle.sets.proofs.Widened.{tops-wide, meets-wide}
 use Rattle.sets.proofs.Letters.{allSafe-brim, setA-none, setA-cut, setB-none, setB-widen}
 
--- a list stands for a set: its maximal members in eight counts
-abbrev pub StandsFor : ℕ → ℕ → Set → List Position → Type 0
-StandsFor K n X l = l ≡ map positionBytes (maximalMembers K n X)
-
 pub stands-length : (K n : ℕ) (X : Set) (l : List Position) → StandsFor K n X l → length l ≡ length (maximalMembers K n X)
 stands-length K n X l s = ap length s ∙ length-map (maximalMembers K n X) positionBytes
-
--- a table of at most eight states on each side
-pub record Small (t : Table) : Type 0 where
-  pub controllers : t .controllers ≤ 8
-  pub worlds : t .worlds ≤ 8
 
 -- the maximal members have their side's counts
 pub members-sized : (K n : ℕ) (X : Set) → Within X (allSafe K n) → Sized n (maximalMembers K n X)

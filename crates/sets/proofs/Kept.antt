@@ -3,16 +3,16 @@
 use mathlib.Core.Path.{_≡_, sym, ap, _∙_}
 use mathlib.Core.Logic.{⊎-elim}
 use mathlib.Core.Bool.{true, not}
-use mathlib.Core.List.{List, [], _∷_, Memᴰ·cast, List·Memᴰ}
+use mathlib.Core.List.{List, [], _∷_, _++_, Memᴰ·cast, List·Memᴰ, List·Memᴰ·append-cases}
 use Prim.Native.Nat.{ℕ}
 use lib.ListN.{length}
 use borrow.Author.Tests.{not-true}
-use Rattle.meaning.specs.Lists.{keep}
+use Rattle.meaning.specs.Lists.{keep, Ascending}
 use Rattle.meaning.specs.Counting.{Position, below}
 use Rattle.meaning.proofs.Tests.{clash, decided, either-left, either-right, either-cases}
 use Rattle.meaning.proofs.Lists.{every-at, every-of, keep-member, keep-holds, keep-of}
 use Rattle.meaning.proofs.Steps.{below-refl, below-antisym}
-use Rattle.meaning.proofs.Ascending.{Ascending, ascending-equal}
+use Rattle.meaning.proofs.Ascending.{ascending-equal}
 use Rattle.sets.specs.Tops.{put, top, tops}
 use Rattle.sets.proofs.Put.{member-put, put-ascends, gathered-member, member-gathered, gathered-ascends}
 
@@ -100,3 +100,10 @@ tops-only n Fs l s k c =
 pub tops-one : (F : Position) → tops (F ∷ []) ≡ F ∷ []
 unfolding tops top put
 tops-one F = rw (below-refl F)
+
+-- the sizes of two lists one after the other, and of the tops
+pub append-sized : (n : ℕ) (Fs Gs : List Position) → Sized n Fs → Sized n Gs → Sized n (Fs ++ Gs)
+append-sized n Fs Gs s r F m = ⊎-elim (λ k. s F k) (λ k. r F k) (List·Memᴰ·append-cases Fs m)
+
+pub tops-sized : (n : ℕ) (Fs : List Position) → Sized n Fs → Sized n (tops Fs)
+tops-sized n Fs s F m = s F (member-tops Fs F m)

@@ -12,12 +12,11 @@ use native.Mathlib.Omega.{arith}
 use lib.ListN.{length}
 use Rattle.meaning.specs.Table.{Half, Table, onOutput, onInput}
 use Rattle.meaning.specs.Counting.{Position, forward, below, back}
-use Rattle.meaning.specs.Rounds.{Set, allSafe, setA, setB, maximalMembers}
+use Rattle.meaning.specs.Rounds.{Set, allSafe, setA, setB, maximalMembers, Down, Within}
 use Rattle.meaning.proofs.Tests.{below-last, same-test}
 use Rattle.meaning.proofs.Lists.{tab-length, tab-at}
 use Rattle.meaning.proofs.Steps.{below-of, below-refl, safe-at, safe-of, forward-length, forward-back, back-length, back-safe}
 use Rattle.meaning.proofs.Positions.{allSafe-length, allSafe-safe, allSafe-of}
-use Rattle.meaning.proofs.Rounds.{Down, Within}
 use Rattle.meaning.proofs.Rounds.{setA-of, setA-safe, setA-leads, setA-down, setB-of, setB-safe, setB-leads}
 use Rattle.meaning.proofs.Maximal.{member-maximal, member-in, maximal-top, members-ascend, climb, members-same}
 use Rattle.counts.specs.Cells.{lesserCounts}
@@ -25,7 +24,7 @@ use Rattle.sets.specs.Tops.{tops, meets}
 use Rattle.sets.specs.Engine.{brim}
 use Rattle.counts.proofs.Lesser.{lesser-length, lesser-left, lesser-right, lesser-of}
 use Rattle.sets.proofs.Kept.{Covered, tops-only, tops-one}
-use Rattle.sets.proofs.Thinned.{meets-member, member-meets}
+use Rattle.sets.proofs.Meets.{meets-member, member-meets}
 
 -- a list of members that covers the whole set has the set's maximal members as its tops
 pub members-tops : (K n : ℕ) (X : Set) → Within X (allSafe K n) → (Fs : List Position) → ((F : Position) → List·Memᴰ F Fs → X F ≡ true)

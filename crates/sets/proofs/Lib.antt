@@ -4,10 +4,11 @@ pub mod Insert
 pub mod Sorted
 pub mod Kept
 pub mod Climb
-pub mod Pairs
+pub mod Meets
+pub mod ClimbPairs
+pub mod SameTops
 pub mod Thinned
-pub mod Thins
-pub mod Runs
+pub mod Picked
 pub mod Paired
 pub mod United
 pub mod Widened
@@ -16,6 +17,6 @@ pub mod Rounded
 pub mod Engine
 pub mod Firsts
 pub mod Members
-pub mod Keeps
+pub mod OneMore
 pub mod Collect
 pub mod Ordered

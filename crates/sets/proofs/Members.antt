@@ -1,22 +1,18 @@
--- The first n positions of an array: what one more of them is, what a search over them has seen, and what a store changes. A search that has
--- found nothing among the first i has `any` false of them; one from the end that has found nothing from i on has the same answer for the first i.
--- The answer of a function that fills an array says how many it holds. Assumes nothing.
+-- The first n positions of an array, and of one of words: what one more of them is, and what a store changes, as for any array (`Firsts`). The test
+-- of two lists tells their equality, by induction on both. The answer of a function that fills an array says how many it holds. Assumes nothing.
 use mathlib.Core.Path.{_≡_, refl, sym, ap, ap₂, _∙_}
 use mathlib.Core.Logic.{_↔_}
-use mathlib.Core.Bool.{Bool, true, false, true≢false, cond, _||_}
-use mathlib.Core.List.{List, [], _∷_, _++_, map, Memᴰ·of-map, Memᴰ·append-right, List·Memᴰ·head}
-use Prim.Native.Nat.{ℕ, zero, suc, _+_, _-_, _≤_, _<_}
-use native.Mathlib.Nat.{le-antisymm}
+use mathlib.Core.Bool.{Bool, true, true≢false}
+use mathlib.Core.List.{List, [], _∷_, _++_, map, Memᴰ·of-map}
+use Prim.Native.Nat.{ℕ, _+_, _-_, _≤_, _<_}
 use native.Mathlib.Decide.{decLt}
 use native.Mathlib.Omega.{arith}
-use borrow.Author.Tests.{ltb-false, lt-ltb, le-ltb, eqb-true, eq-eqb}
+use borrow.Author.Tests.{lt-ltb, le-ltb, eqb-true, eq-eqb}
 use lib.Dec.{eqb}
 use lib.IntN.{ℤ}
 use lib.ListN.{length, take, getD, set}
-use Rattle.meaning.specs.Lists.{any, place}
 use Rattle.meaning.specs.Counting.{Position}
-use Rattle.meaning.proofs.Tests.{both, both-left, both-right, neither-left, neither-right, clash, refuted}
-use Rattle.meaning.proofs.Lists.{any-of, place-le, placeless}
+use Rattle.meaning.proofs.Tests.{both, both-left, both-right}
 use Rattle.counts.specs.Cells.{cells}
 use Rattle.counts.proofs.Cells.{cells-length}
 use Rattle.counts.specs.Words.{countsIn}
@@ -32,9 +28,9 @@ module _ (all : List (List ℤ)) where
   unfolding members
   members-length = first-length cells [] all
 
-  pub members-sized : (n : ℕ) → Sized 8 (members all n)
+  pub members-wide : (n : ℕ) → Sized 8 (members all n)
   unfolding members
-  members-sized n F m = let r = Memᴰ·of-map cells (take n all) m in rw (← r .2) (cells-length (r .0))
+  members-wide n F m = let r = Memᴰ·of-map cells (take n all) m in rw (← r .2) (cells-length (r .0))
 
   pub members-at : (i n : ℕ) → i < n → getD (members all n) i (cells []) ≡ cells (getD all i [])
   unfolding members
@@ -95,32 +91,6 @@ module _ (all : List ℕ) where
   pub words-store : (i : ℕ) (w : ℕ) → i < length all → words (set all i w) (i + 1) ≡ words all i ++ countsIn w ∷ []
   unfolding words
   words-store = first-store countsIn 0 all
-
--- a search from the front, and one from the end: whether any holds, and the place of the first, do not change by a last one that fails, or holds
-module _ {A : Type 0} (f : A → Bool) where
-  pub any-past : (xs : List A) (x : A) → f x ≡ false → any f (xs ++ x ∷ []) ≡ any f xs
-  any-past [] x q = rw q refl
-  any-past (y ∷ xs) x q = ap (λ (r : Bool). f y || r) (any-past xs x q)
-
-  pub none-more : (xs : List A) (x : A) → any f xs ≡ false → f x ≡ false → any f (xs ++ x ∷ []) ≡ false
-  none-more xs x p q = any-past xs x q ∙ p
-
-  pub one-here : (xs : List A) (x : A) (ys : List A) → f x ≡ true → any f (xs ++ x ∷ ys) ≡ true
-  one-here xs x ys q = any-of f (xs ++ x ∷ ys) x (Memᴰ·append-right xs (List·Memᴰ·head refl)) q
-
-  pub place-none : (xs : List A) → any f xs ≡ false → place f xs ≡ length xs
-  place-none xs p =
-      le-antisymm (place-le f xs)
-      (ltb-false (place f xs) (length xs) (placeless f xs (λ x m. refuted (f x) (λ q. clash (any f xs) (any-of f xs x m q) p))))
-
-  pub place-past : (xs : List A) (x : A) → f x ≡ true → place f (xs ++ x ∷ []) ≡ place f xs
-  place-past [] x q = rw q refl
-  place-past (y ∷ xs) x q = ap (λ (r : ℕ). cond (f y) zero (suc r)) (place-past xs x q)
-
-  pub place-first : (xs : List A) (x : A) (ys : List A) → any f xs ≡ false → f x ≡ true → place f (xs ++ x ∷ ys) ≡ length xs
-  place-first [] x ys p q = rw q refl
-  place-first (y ∷ xs) x ys p q =
-      rw (neither-left (f y) (any f xs) p) (ap suc (place-first xs x ys (neither-right (f y) (any f xs) p) q))
 
 -- the test of two lists tells their equality, if that of two members does
 module _ {A : Type 0} (test : A → A → Bool) (tells : (x y : A) → (test x y ≡ true) ↔ (x ≡ y)) where

@@ -9,22 +9,23 @@ use mathlib.Core.List.{List, [], _∷_, _++_, map, flatMap, reverse, Memᴰ·cas
 use mathlib.Core.List.{List·Memᴰ, List·Memᴰ·not-nil, List·Memᴰ·append-cases}
 use Prim.Native.Nat.{ℕ}
 use lib.ListN.{length}
-use Rattle.meaning.specs.Lists.{any, keep}
-use Rattle.meaning.specs.Counting.{Position, below}
+use Rattle.meaning.specs.Lists.{keep}
+use Rattle.meaning.specs.Counting.{Position, below, covered}
 use Rattle.meaning.proofs.Tests.{clash, decided}
 use Rattle.meaning.proofs.Lists.{any-at, keep-member, keep-holds, keep-of}
 use Rattle.meaning.proofs.Ascending.{keep-ascends}
 use Rattle.meaning.proofs.Steps.{below-refl, below-trans, below-antisym}
 use Rattle.counts.specs.Cells.{lesserCounts}
 use Rattle.sets.specs.Tops.{tops, meets, thinned, sorted}
-use Rattle.sets.specs.Climb.{covering, uncovered, collected, rowsOf, paired}
+use Rattle.sets.specs.Candidates.{uncovered, collected, rowsOf, paired}
 use Rattle.counts.proofs.Lesser.{lesser-length, lesser-left, lesser-right, lesser-of}
 use Rattle.sets.proofs.Sorted.{reverse-member, member-reverse}
 use Rattle.sets.proofs.Kept.{Sized, Kept, Covered}
 use Rattle.sets.proofs.Climb.{Climbing}
-use Rattle.sets.proofs.Thinned.{meets-member, member-meets, meets-within, meets-sized}
-use Rattle.sets.proofs.Thins.{Alone, thinned-among, thinned-covers, thinned-alone, own-kept, own-alone}
-use Rattle.sets.proofs.Runs.{Run, climbing-none, collected-covers, run-own, collected-run, run-tops}
+use Rattle.sets.proofs.Meets.{meets-member, member-meets, meets-within, meets-sized}
+use Rattle.sets.proofs.SameTops.{Alone, own-kept, own-alone}
+use Rattle.sets.proofs.Thinned.{thinned-among, thinned-covers, thinned-alone}
+use Rattle.sets.proofs.Picked.{Picked, climbing-none, collected-covers, picked-own, collected-picked, picked-tops}
 
 -- a position of a list that is alone and covers all pairs has only itself above it
 alone-maximal : (n : ℕ) (Fs Zs : List Position) → Sized n Fs → Sized n Zs → Alone Zs → ((G : Position) → List·Memᴰ G Fs → Covered Zs G)
@@ -60,21 +61,21 @@ module _ (Fs : List Position) (x : Position) (xs ys l : List Position) (left : L
 
   row-left : Left Fs (collected (meets xs ys) l (candidates x ys)) (meets xs ys)
   row-left G k =
-      ⊎-elim (λ c. inl (covered (c .0, Memᴰ·append-left (candidates x ys) (c .1), c .2)))
-      (λ i. ⊎-elim (λ j. let c = row-covered G j in inl (covered (c .0, Memᴰ·append-right l (c .1), c .2))) (λ j. inr j)
+      ⊎-elim (λ c. inl (still (c .0, Memᴰ·append-left (candidates x ys) (c .1), c .2)))
+      (λ i. ⊎-elim (λ j. let c = row-covered G j in inl (still (c .0, Memᴰ·append-right l (c .1), c .2))) (λ j. inr j)
       (List·Memᴰ·append-cases (row x ys) i))
       (left G k)
     where
-      covered : Covered (l ++ candidates x ys) G → Covered (collected (meets xs ys) l (candidates x ys)) G
-      covered = collected-covers (meets xs ys) l (candidates x ys) G
+      still : Covered (l ++ candidates x ys) G → Covered (collected (meets xs ys) l (candidates x ys)) G
+      still = collected-covers (meets xs ys) l (candidates x ys) G
 
-rows-run : (n : ℕ) (Fs : List Position) → Sized n Fs → (xs ys l : List Position) → ((G : Position) → List·Memᴰ G (meets xs ys) → List·Memᴰ G Fs) → Run Fs l
-    → Left Fs l (meets xs ys) → Run Fs (rowsOf xs ys l) × ((G : Position) → List·Memᴰ G Fs → Covered (rowsOf xs ys l) G)
+rows-run : (n : ℕ) (Fs : List Position) → Sized n Fs → (xs ys l : List Position) → ((G : Position) → List·Memᴰ G (meets xs ys) → List·Memᴰ G Fs) → Picked Fs l
+    → Left Fs l (meets xs ys) → Picked Fs (rowsOf xs ys l) × ((G : Position) → List·Memᴰ G Fs → Covered (rowsOf xs ys l) G)
 unfolding rowsOf meets flatMap
 rows-run n Fs s [] ys l within run left = (run, λ G m. ⊎-elim (λ (c : Covered l G). c) (λ k. absurd (List·Memᴰ·not-nil k)) (left G m))
 rows-run n Fs s (x ∷ xs) ys l within run left =
     rows-run n Fs s xs ys (collected (meets xs ys) l (candidates x ys)) later
-    (collected-run n Fs s (meets xs ys) l (candidates x ys) later run
+    (collected-picked n Fs s (meets xs ys) l (candidates x ys) later run
     (λ F m. within F (Memᴰ·append-left (meets xs ys) (member-reverse (row x ys) F (thinned-among (reverse (row x ys)) F m))))
     (row-climbs Fs x xs ys l left))
     (row-left Fs x xs ys l left)
@@ -88,10 +89,10 @@ module _ (n : ℕ) (X Y : List Position) (s : Sized n X) (r : Sized n Y) (own : 
   sized = meets-sized n X Y s
 
   abbrev whole : List Position
-  whole = keep (covering Y) X
+  whole = keep (covered Y) X
 
   abbrev fits : List Position
-  fits = keep (covering X) Y
+  fits = keep (covered X) Y
 
   -- and what is left then
   abbrev xs : List Position
@@ -109,24 +110,24 @@ module _ (n : ℕ) (X Y : List Position) (s : Sized n X) (r : Sized n Y) (own : 
   whole-kept : Kept (meets X Y) whole
   whole-kept =
       record {
-        ascends = keep-ascends (covering Y) X (own-kept n X s own .ascends);
+        ascends = keep-ascends (covered Y) X (own-kept n X s own .ascends);
         among = λ F m.
-            let c = any-at (below F) Y (keep-holds (covering Y) X F m) in
-            let k = keep-member (covering Y) X F m in
+            let c = any-at (below F) Y (keep-holds (covered Y) X F m) in
+            let k = keep-member (covered Y) X F m in
             pair F F (c .0) k (c .1) (s F k) (below-refl F) (c .2) (lesser-left F (c .0));
-        maximal = λ F G m. alone-maximal n (meets X Y) X sized s (own-alone n X s own) first F G (keep-member (covering Y) X F m);
+        maximal = λ F G m. alone-maximal n (meets X Y) X sized s (own-alone n X s own) first F G (keep-member (covered Y) X F m);
       }
     where
       first : (G : Position) → List·Memᴰ G (meets X Y) → Covered X G
       first G m = let p = member-meets X Y G m in (p .0, p .2, ap (λ (F : Position). below F (p .0)) (p .4) ∙ lesser-left (p .0) (p .1))
 
-  fits-run : Run (meets X Y) (collected [] whole fits)
+  fits-run : Picked (meets X Y) (collected [] whole fits)
   fits-run =
-      collected-run n (meets X Y) sized [] whole fits (λ G m. absurd (List·Memᴰ·not-nil m)) (run-own (meets X Y) whole whole-kept)
-      (λ F m. let c = any-at (below F) X (keep-holds (covering X) Y F m) in
-      let k = keep-member (covering X) Y F m in
+      collected-picked n (meets X Y) sized [] whole fits (λ G m. absurd (List·Memᴰ·not-nil m)) (picked-own (meets X Y) whole whole-kept)
+      (λ F m. let c = any-at (below F) X (keep-holds (covered X) Y F m) in
+      let k = keep-member (covered X) Y F m in
       pair F (c .0) F (c .1) k (r F k) (c .2) (below-refl F) (lesser-right (c .0) F))
-      (λ F m _. climbing-none (meets X Y) [] F (λ G. alone-maximal n (meets X Y) Y sized r alone second F G (keep-member (covering X) Y F m)))
+      (λ F m _. climbing-none (meets X Y) [] F (λ G. alone-maximal n (meets X Y) Y sized r alone second F G (keep-member (covered X) Y F m)))
     where
       second : (G : Position) → List·Memᴰ G (meets X Y) → Covered Y G
       second G m = let p = member-meets X Y G m in (p .1, p .3, ap (λ (F : Position). below F (p .1)) (p .4) ∙ lesser-right (p .0) (p .1))
@@ -134,21 +135,21 @@ module _ (n : ℕ) (X Y : List Position) (s : Sized n X) (r : Sized n Y) (own : 
   fits-left : Left (meets X Y) (collected [] whole fits) (meets xs ys)
   fits-left G m = go (member-meets X Y G m)
     where
-      covered : Covered (whole ++ fits) G → Covered (collected [] whole fits) G
-      covered = collected-covers [] whole fits G
+      still : Covered (whole ++ fits) G → Covered (collected [] whole fits) G
+      still = collected-covers [] whole fits G
 
       go : (x : Position) × (y : Position) × List·Memᴰ x X × List·Memᴰ y Y × (G ≡ lesserCounts x y)
           → Covered (collected [] whole fits) G ⊎ List·Memᴰ G (meets xs ys)
       go (x, y, k, j, e) =
-          ⊎-elim (λ c. inl (covered (x, Memᴰ·append-left fits (keep-of (covering Y) X x k c), rw e (lesser-left x y))))
-          (λ c. ⊎-elim (λ d. inl (covered (y, Memᴰ·append-right whole (keep-of (covering X) Y y j d), rw e (lesser-right x y))))
+          ⊎-elim (λ c. inl (still (x, Memᴰ·append-left fits (keep-of (covered Y) X x k c), rw e (lesser-left x y))))
+          (λ c. ⊎-elim (λ d. inl (still (y, Memᴰ·append-right whole (keep-of (covered X) Y y j d), rw e (lesser-right x y))))
           (λ d. inr (Memᴰ·cast e (meets-member xs ys x y (keep-of (uncovered Y) X x k (ap not c)) (keep-of (uncovered X) Y y j (ap not d)))))
-          (decided (any (below y) X)))
-          (decided (any (below x) Y))
+          (decided (covered X y)))
+          (decided (covered Y x))
 
   pub paired-tops : (sorted (paired X Y) ≡ tops (meets X Y)) × (length (paired X Y) ≡ length (tops (meets X Y)))
   unfolding paired
   paired-tops =
       let t = rows-run n (meets X Y) sized xs ys (collected [] whole fits)
       (meets-within xs X ys Y (keep-member (uncovered Y) X) (keep-member (uncovered X) Y)) fits-run fits-left in
-      run-tops n (meets X Y) sized (paired X Y) (t .0) (t .1)
+      picked-tops n (meets X Y) sized (paired X Y) (t .0) (t .1)

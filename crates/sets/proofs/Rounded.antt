@@ -1,6 +1,6 @@
 -- What the lists of a round are: each is its own tops, its positions have eight counts, and no count is over K + 1, since a cut takes lesser counts
 -- and a step back is safe. So each may be cut or widened by the next letter. Assumes nothing.
-use mathlib.Core.Path.{_≡_, refl, ap}
+use mathlib.Core.Path.{_≡_, refl}
 use mathlib.Core.Logic.{⊎-elim}
 use mathlib.Core.Bool.{true}
 use mathlib.Core.List.{List, [], _∷_, _++_, map, Memᴰ·of-map, List·Memᴰ, List·Memᴰ·append-cases, List·Memᴰ·not-nil, List·Memᴰ·eq-of-singleton}
@@ -9,7 +9,6 @@ use native.Mathlib.Decide.{decLt}
 use native.Mathlib.Omega.{arith}
 use borrow.Author.Tests.{le-leb}
 use lib.Dec.{leb}
-use lib.ListN.{length}
 use Rattle.meaning.specs.Lists.{every}
 use Rattle.meaning.specs.Table.{Half, Table, onOutput, onInput}
 use Rattle.meaning.specs.Counting.{Position, count, back}
@@ -22,10 +21,10 @@ use Rattle.sets.specs.Tops.{tops, meets}
 use Rattle.sets.specs.Engine.{backWide, cutBy, widenBy, brim, listA, listB}
 use Rattle.sets.specs.Members.{Low}
 use Rattle.counts.proofs.Lesser.{lesser-at}
-use Rattle.sets.proofs.Kept.{Sized, member-tops, tops-one}
+use Rattle.sets.proofs.Kept.{Sized, member-tops, tops-one, append-sized, tops-sized}
 use Rattle.sets.proofs.Letters.{brim-safe}
-use Rattle.sets.proofs.Thinned.{member-meets, meets-sized, append-sized, tops-sized}
-use Rattle.sets.proofs.Thins.{tops-again}
+use Rattle.sets.proofs.Meets.{member-meets, meets-sized}
+use Rattle.sets.proofs.SameTops.{tops-again}
 
 -- each list may be cut or widened: eight counts, its own tops, no count over K + 1
 pub record Ready (K : ℕ) (l : List Position) : Type 0 where

@@ -8,19 +8,18 @@ use mathlib.Core.List.{List, [], _++_, Memᴰ·append-left, Memᴰ·append-right
 use Prim.Native.Nat.{ℕ}
 use lib.ListN.{length}
 use borrow.Author.Tests.{not-true}
-use Rattle.meaning.specs.Lists.{any, keep}
-use Rattle.meaning.specs.Counting.{Position, below}
+use Rattle.meaning.specs.Lists.{keep}
+use Rattle.meaning.specs.Counting.{Position, below, covered}
 use Rattle.meaning.proofs.Tests.{clash, decided}
 use Rattle.meaning.proofs.Lists.{any-at, any-of, keep-member, keep-holds, keep-of}
 use Rattle.meaning.proofs.Ascending.{keep-ascends}
 use Rattle.meaning.proofs.Steps.{below-refl, below-trans}
 use Rattle.sets.specs.Tops.{tops, sorted}
-use Rattle.sets.specs.Climb.{uncovered, united}
-use Rattle.sets.proofs.Kept.{Sized, Kept, Covered}
+use Rattle.sets.specs.Candidates.{uncovered, united}
+use Rattle.sets.proofs.Kept.{Sized, Kept, Covered, append-sized}
 use Rattle.sets.proofs.Climb.{Climbing}
-use Rattle.sets.proofs.Thinned.{append-sized}
-use Rattle.sets.proofs.Thins.{Alone, own-kept, own-alone}
-use Rattle.sets.proofs.Runs.{collected-covers, run-own, collected-run, run-tops}
+use Rattle.sets.proofs.SameTops.{Alone, own-kept, own-alone}
+use Rattle.sets.proofs.Picked.{collected-covers, picked-own, collected-picked, picked-tops}
 
 module _ (n : ℕ) (B E : List Position) (s : Sized n B) (r : Sized n E) (own : tops B ≡ B) (alone : Alone E) where
   abbrev first : List Position
@@ -32,7 +31,7 @@ module _ (n : ℕ) (B E : List Position) (s : Sized n B) (r : Sized n E) (own : 
         ascends = keep-ascends (uncovered E) B (own-kept n B s own .ascends);
         among = λ F m. Memᴰ·append-left E (keep-member (uncovered E) B F m);
         maximal = λ F G m k b. ⊎-elim (λ i. own-alone n B s own F G (keep-member (uncovered E) B F m) i b)
-            (λ i. absurd (clash (any (below F) E) (any-of (below F) E G i b) (not-true (any (below F) E) (keep-holds (uncovered E) B F m))))
+            (λ i. absurd (clash (covered E F) (any-of (below F) E G i b) (not-true (covered E F) (keep-holds (uncovered E) B F m))))
             (List·Memᴰ·append-cases B k);
       }
 
@@ -40,7 +39,7 @@ module _ (n : ℕ) (B E : List Position) (s : Sized n B) (r : Sized n E) (own : 
   first-covers : (F : Position) → List·Memᴰ F B → Covered (first ++ E) F
   first-covers F m =
       ⊎-elim (λ c. let d = any-at (below F) E c in (d .0, Memᴰ·append-right first (d .1), d .2))
-      (λ c. (F, Memᴰ·append-left E (keep-of (uncovered E) B F m (ap not c)), below-refl F)) (decided (any (below F) E))
+      (λ c. (F, Memᴰ·append-left E (keep-of (uncovered E) B F m (ap not c)), below-refl F)) (decided (covered E F))
 
   second-climbs : (F : Position) → List·Memᴰ F E → (Covered first F → ⊥) → Climbing (B ++ E) [] F
   second-climbs F m new G k a b = absurd (⊎-elim among-first (λ i. itself G i a (below-refl G)) (List·Memᴰ·append-cases B k))
@@ -59,8 +58,8 @@ module _ (n : ℕ) (B E : List Position) (s : Sized n B) (r : Sized n E) (own : 
   unfolding united
   united-tops =
       let sized = append-sized n B E s r in
-      run-tops n (B ++ E) sized (united B E)
-      (collected-run n (B ++ E) sized [] first E (λ G m. absurd (List·Memᴰ·not-nil m)) (run-own (B ++ E) first first-kept)
+      picked-tops n (B ++ E) sized (united B E)
+      (collected-picked n (B ++ E) sized [] first E (λ G m. absurd (List·Memᴰ·not-nil m)) (picked-own (B ++ E) first first-kept)
       (λ F m. Memᴰ·append-right B m) second-climbs)
       (λ F m. collected-covers [] first E F
       (⊎-elim (λ k. first-covers F k) (λ k. (F, Memᴰ·append-right first k, below-refl F)) (List·Memᴰ·append-cases B m)))

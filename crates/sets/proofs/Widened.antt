@@ -6,17 +6,15 @@ use mathlib.Core.List.{List, [], _∷_, _++_, map, flatMap, map-map, map-append,
 use mathlib.Core.List.{List·Memᴰ, List·Memᴰ·head, List·Memᴰ·tail}
 use Prim.Native.Nat.{ℕ, _≤_}
 use lib.ListN.{length}
-use Rattle.meaning.specs.Lists.{before}
+use Rattle.meaning.specs.Lists.{before, Ascending, none, more}
 use Rattle.meaning.specs.Counting.{Position, below}
 use Rattle.meaning.specs.Written.{positionBytes}
-use Rattle.meaning.proofs.Ascending.{Ascending, none, more}
 use Rattle.counts.specs.Cells.{lesserCounts}
 use Rattle.counts.proofs.Wide.{wide-length, below-wide, before-wide}
 use Rattle.sets.specs.Tops.{tops, meets}
 use Rattle.counts.proofs.Lesser.{wide-lesser}
-use Rattle.sets.proofs.Kept.{Sized, Covered, member-tops, tops-kept, tops-only}
+use Rattle.sets.proofs.Kept.{Sized, Covered, member-tops, tops-kept, tops-only, tops-sized}
 use Rattle.sets.proofs.Climb.{tops-cover}
-use Rattle.sets.proofs.Thinned.{tops-sized}
 
 -- in eight counts: the tops of positions with at most eight counts, widened, are the tops of the widened
 wide-ascends : (n : ℕ) (l : List Position) → n ≤ 8 → Sized n l → Ascending l → Ascending (map positionBytes l)

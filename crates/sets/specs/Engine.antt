@@ -1,22 +1,33 @@
 -- The rounds as the engine keeps them: lists of positions in eight counts, cut and widened letter by letter.
+use mathlib.Core.Path.{_≡_}
 use mathlib.Core.List.{List, [], _∷_, _++_, map}
-use Prim.Native.Nat.{ℕ, zero, suc, _+_}
+use Prim.Native.Nat.{ℕ, zero, suc, _+_, _≤_}
 use Rattle.meaning.specs.Lists.{tab}
 use Rattle.meaning.specs.Table.{Half, Table, onOutput, onInput}
 use Rattle.meaning.specs.Counting.{Position, back}
+use Rattle.meaning.specs.Rounds.{Set, maximalMembers}
 use Rattle.meaning.specs.Written.{positionBytes}
 use Rattle.sets.specs.Tops.{tops, meets}
+
+-- a table of at most eight states on each side
+pub record Small (t : Table) : Type 0 where
+  pub controllers : t .controllers ≤ 8
+  pub worlds : t .worlds ≤ 8
+
+-- a list stands for a set of positions of n states: it has the maximal members, in eight counts
+abbrev pub StandsFor : ℕ → ℕ → Set → List Position → Type 0
+StandsFor K n X l = l ≡ map positionBytes (maximalMembers K n X)
 
 -- the step back, in eight counts
 abbrev pub backWide : ℕ → Half → Position → Position
 backWide K h F = positionBytes (back K h F)
 
--- one cut of A by an input, and one widening of B by an output
+-- one cut of A by an input, and one widening of B by an output: from the members of the set that the letter leads into, and the list
 unfoldable pub cutBy : ℕ → Half → List Position → List Position → List Position
-cutBy K h ws vs = tops (meets vs (map (backWide K h) ws))
+cutBy K h into l = tops (meets l (map (backWide K h) into))
 
 unfoldable pub widenBy : ℕ → Half → List Position → List Position → List Position
-widenBy K h vs bs = tops (bs ++ map (backWide K h) vs)
+widenBy K h into l = tops (l ++ map (backWide K h) into)
 
 -- the one maximal safe position: K everywhere
 abbrev pub brim : ℕ → ℕ → Position

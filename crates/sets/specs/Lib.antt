@@ -2,4 +2,4 @@
 pub mod Tops
 pub mod Engine
 pub mod Members
-pub mod Climb
+pub mod Candidates

@@ -10,6 +10,7 @@ use Rattle.meaning.specs.Lists.{before, place, every}
 use Rattle.meaning.specs.Counting.{Position}
 use Rattle.counts.specs.Cells.{cells}
 use Rattle.counts.specs.Words.{countsIn}
+use Rattle.sets.specs.Tops.{sorted}
 use Rattle.sets.specs.declared.tops.Found.{Found}
 use Rattle.sets.specs.declared.tops.Found.the-variants.{Number, Full}
 
@@ -55,6 +56,15 @@ Holds room l out found = Held room l (members out) found
 
 abbrev pub HoldsWords : ℕ → List Position → List ℕ → Found → Type 0
 HoldsWords room l out found = Held room l (words out) found
+
+-- as many words as were found stand there, no two the same, and two arrays of these lengths have room for them
+abbrev pub Storable : Found → List ℕ → ℕ → ℕ → Type 0
+Storable found next spare room =
+    (n : ℕ) → found ≡ Number n → (n ≤ length next) × (n ≤ spare) × (n ≤ room) × (length (sorted (words next n)) ≡ n)
+
+-- an array holds them in order
+abbrev pub StoredInOrder : Found → List ℕ → List (List ℤ) → Type 0
+StoredInOrder found next out = (n : ℕ) → found ≡ Number n → members out n ≡ sorted (words next n)
 
 -- all counts of a list's positions have room in a byte below its top bit
 abbrev pub Low : List Position → Type 0

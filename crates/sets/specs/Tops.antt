@@ -1,8 +1,8 @@
 -- Sets of positions by their maximal members: what the engine's lists are.
 use mathlib.Core.Bool.{Bool, cond, not, _||_}
 use mathlib.Core.List.{List, [], _∷_, _++_, map, flatMap, foldr}
-use Rattle.meaning.specs.Lists.{before, keep, every, any}
-use Rattle.meaning.specs.Counting.{Position, below}
+use Rattle.meaning.specs.Lists.{before, keep, every}
+use Rattle.meaning.specs.Counting.{Position, below, covered}
 use Rattle.counts.specs.Cells.{lesserCounts}
 
 -- a position put in its place in an ascending list, where it does not stand yet
@@ -24,7 +24,7 @@ meets Fs Gs = flatMap (λ (F : Position). map (lesserCounts F) Gs) Fs
 
 -- a position added to a list, if none of it is above, in place of those below
 unfoldable pub thinOne : Position → List Position → List Position
-thinOne F l = cond (any (below F) l) l (keep (λ (G : Position). not (below G F)) l ++ F ∷ [])
+thinOne F l = cond (covered l F) l (keep (λ (G : Position). not (below G F)) l ++ F ∷ [])
 
 -- the positions of a list that no other is above, in the order in which they were met from its end on
 unfoldable pub thinned : List Position → List Position

@@ -3,14 +3,13 @@ use counts::position;
 ghost use mathlib.Core.Path.{_≡_};
 ghost use Prim.Native.Nat.{_≤_};
 ghost use lib.ListN.{length};
-ghost use Rattle.meaning.specs.Lists.{any};
-ghost use Rattle.meaning.specs.Counting.{below};
+ghost use Rattle.meaning.specs.Counting.{covered};
 ghost use Rattle.counts.specs.Cells.{cells};
 ghost use Rattle.sets.specs.Members.{members, sameLists};
 
 // Whether some one of the first n members is above the position.
 pub fn covers(set: &[[i8; 8]], n: usize, p: &[i8; 8]) -> bool
-    ensures { λ r. ⌜ r ≡ any (below (cells (now (p .entry)))) (members (now (set .entry)) n) ⌝ }
+    ensures { λ r. ⌜ r ≡ covered (members (now (set .entry)) n) (cells (now (p .entry))) ⌝ }
 {
     let mut i = 0;
     while i < n {

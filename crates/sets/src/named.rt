@@ -13,73 +13,75 @@ ghost use lib.ListN.{length};
 ghost use Rattle.counts.specs.Cells.{halfOf};
 ghost use Rattle.sets.specs.Tops.{tops as topsOf, thinned};
 ghost use Rattle.sets.specs.Engine.{backWide, cutBy, widenBy};
-ghost use Rattle.sets.specs.Members.{words as wordsOf, members, Holds, Low};
+ghost use Rattle.sets.specs.Members.{words as wordsOf, members, Holds, Low, Storable, StoredInOrder};
 
-// The members stepped back by a letter, but for those that another is above.
-fn led_back(set: &[[i8; 8]], n: usize, half: Half, k: usize, out: &mut [u64]) -> usize
-    requires { ⌜ (k ≤ 7) × (n ≤ 256) × (n ≤ length (now set)) × (n ≤ length (now out)) ⌝ }
-    ensures { λ r. ⌜ (r ≤ n) × (wordsOf (now (out .exit)) r ≡ thinned (map (backWide k (halfOf half)) (members (now (set .entry)) n))) ⌝ }
+// The m members of the set that a letter leads into stepped back, but for those that another is above.
+fn led_back(into: &[[i8; 8]], m: usize, half: Half, k: usize, out: &mut [u64]) -> usize
+    requires { ⌜ (k ≤ 7) × (m ≤ 256) × (m ≤ length (now into)) × (m ≤ length (now out)) ⌝ }
+    ensures { λ r. ⌜ (r ≤ m) × (wordsOf (now (out .exit)) r ≡ thinned (map (backWide k (halfOf half)) (members (now (into .entry)) m))) ⌝ }
 {
     let most = word::pack(&position::brim(k, half.sources));
     let mut backs = [0u64; 256];
-    words::step_back(set, n, half, most, &mut backs);
-    tops::thin(&backs, n, out)
+    words::step_back(into, m, half, most, &mut backs);
+    tops::thin(&backs, m, out)
 }
 
-// Cuts A by an input: `w` has the members of W, and `a` those of A before and after.
+// Stores what was found in place of the set, in order. `spare` is an array that is not needed any
+// more: another would have to be cleared.
+fn store_found(found: Found, next: &[u64], spare: &mut [u64], set: &mut [[i8; 8]]) -> Found
+    requires { ⌜ Storable found (now next) (length (now spare)) (length (now set)) ⌝ }
+    ensures { λ r. ⌜ (r ≡ found) × StoredInOrder found (now (next .entry)) (now (set .exit)) ⌝ }
+{
+    let Found::Number(n) = found else {
+        return Found::Full;
+    };
+    words::sort(next, n, spare);
+    words::store(spare, n, set);
+    Found::Number(n)
+}
+
+// Cuts A by an input: `into` has the m members of W, and `set` those of A, of which there are n before.
 pub fn cut(
-    w: &[[i8; 8]],
-    wn: usize,
+    into: &[[i8; 8]],
+    m: usize,
     half: Half,
     k: usize,
-    a: &mut [[i8; 8]],
-    an: usize,
+    set: &mut [[i8; 8]],
+    n: usize,
     room: usize,
 ) -> Found
-    requires { ⌜ (k ≤ 7) × (wn ≤ 256) × (wn ≤ length (now w)) × (an ≤ 256) × (an ≤ length (now a)) × (room ≤ 256) × (room ≤ length (now a)) ⌝ }
-    requires list { ⌜ Low (members (now a) an) × (topsOf (members (now a) an) ≡ members (now a) an) ⌝ }
-    ensures { λ r. ⌜ Holds room (cutBy k (halfOf half) (members (now (w .entry)) wn) (members (now (a .entry)) an)) (now (a .exit)) r ⌝ }
+    requires { ⌜ (k ≤ 7) × (m ≤ 256) × (m ≤ length (now into)) × (n ≤ 256) × (n ≤ length (now set)) × (room ≤ 256) × (room ≤ length (now set)) ⌝ }
+    requires list { ⌜ Low (members (now set) n) × (topsOf (members (now set) n) ≡ members (now set) n) ⌝ }
+    ensures { λ r. ⌜ Holds room (cutBy k (halfOf half) (members (now (into .entry)) m) (members (now (set .entry)) n)) (now (set .exit)) r ⌝ }
 {
     let mut backs = [0u64; 256];
-    let en = led_back(w, wn, half, k, &mut backs);
+    let led = led_back(into, m, half, k, &mut backs);
     let mut old = [0u64; 256];
-    words::load(a, an, &mut old);
+    words::load(set, n, &mut old);
     let mut next = [0u64; 256];
-    let found = tops::pairs(&old, an, &backs, en, &mut next, room);
-    let Found::Number(n) = found else {
-        return Found::Full;
-    };
-    // the old list is not needed any more, and another array would have to be cleared
-    words::sort(&next, n, &mut old);
-    words::store(&old, n, a);
-    Found::Number(n)
+    let found = tops::pairs(&old, n, &backs, led, &mut next, room);
+    store_found(found, &next, &mut old, set)
 }
 
-// Widens B by an output: `v` has the members of A, and `b` those of B before and after.
+// Widens B by an output: `into` has the m members of A, and `set` those of B, of which there are n before.
 pub fn widen(
-    v: &[[i8; 8]],
-    vn: usize,
+    into: &[[i8; 8]],
+    m: usize,
     half: Half,
     k: usize,
-    b: &mut [[i8; 8]],
-    bn: usize,
+    set: &mut [[i8; 8]],
+    n: usize,
     room: usize,
 ) -> Found
-    requires { ⌜ (k ≤ 7) × (vn ≤ 256) × (vn ≤ length (now v)) × (bn ≤ 256) × (bn ≤ length (now b)) × (room ≤ 256) × (room ≤ length (now b)) ⌝ }
-    requires list { ⌜ Low (members (now b) bn) × (topsOf (members (now b) bn) ≡ members (now b) bn) ⌝ }
-    ensures { λ r. ⌜ Holds room (widenBy k (halfOf half) (members (now (v .entry)) vn) (members (now (b .entry)) bn)) (now (b .exit)) r ⌝ }
+    requires { ⌜ (k ≤ 7) × (m ≤ 256) × (m ≤ length (now into)) × (n ≤ 256) × (n ≤ length (now set)) × (room ≤ 256) × (room ≤ length (now set)) ⌝ }
+    requires list { ⌜ Low (members (now set) n) × (topsOf (members (now set) n) ≡ members (now set) n) ⌝ }
+    ensures { λ r. ⌜ Holds room (widenBy k (halfOf half) (members (now (into .entry)) m) (members (now (set .entry)) n)) (now (set .exit)) r ⌝ }
 {
     let mut backs = [0u64; 256];
-    let en = led_back(v, vn, half, k, &mut backs);
+    let led = led_back(into, m, half, k, &mut backs);
     let mut old = [0u64; 256];
-    words::load(b, bn, &mut old);
+    words::load(set, n, &mut old);
     let mut next = [0u64; 256];
-    let found = tops::together(&old, bn, &backs, en, &mut next, room);
-    let Found::Number(n) = found else {
-        return Found::Full;
-    };
-    // the old list is not needed any more, and another array would have to be cleared
-    words::sort(&next, n, &mut old);
-    words::store(&old, n, b);
-    Found::Number(n)
+    let found = tops::together(&old, n, &backs, led, &mut next, room);
+    store_found(found, &next, &mut old, set)
 }

@@ -9,12 +9,12 @@ ghost use mathlib.Core.List.{[], map, reverse};
 ghost use Prim.Native.Nat.{_≤_, _-_};
 ghost use lib.ListN.{length};
 ghost use Rattle.meaning.specs.Lists.{keep};
-ghost use Rattle.meaning.specs.Counting.{below};
+ghost use Rattle.meaning.specs.Counting.{below, covered};
 ghost use Rattle.counts.specs.Cells.{lesserCounts};
 ghost use Rattle.sets.specs.Tops.{meets, thinned};
 ghost use Rattle.counts.specs.Words.{countsIn};
 ghost use Rattle.sets.specs.Members.{words as wordsOf, HoldsWords};
-ghost use Rattle.sets.specs.Climb.{climbed, collected, covering, uncovered, rowsOf, paired, united};
+ghost use Rattle.sets.specs.Candidates.{climbed, collected, uncovered, rowsOf, paired, united};
 
 // How many members a list came to, or that there were more than the room.
 pub enum Found {
@@ -56,12 +56,12 @@ fn part(
     n: usize,
     others: &[u64],
     m: usize,
-    covered: &mut [u64],
+    taken: &mut [u64],
     rest: &mut [u64],
 ) -> usize
-    requires { ⌜ (n ≤ length (now set)) × (m ≤ length (now others)) × (n ≤ length (now covered)) × (n ≤ length (now rest)) ⌝ }
+    requires { ⌜ (n ≤ length (now set)) × (m ≤ length (now others)) × (n ≤ length (now taken)) × (n ≤ length (now rest)) ⌝ }
     ensures { λ r. ⌜ (r ≤ n)
-        × (wordsOf (now (covered .exit)) r ≡ keep (covering (wordsOf (now (others .entry)) m)) (wordsOf (now (set .entry)) n))
+        × (wordsOf (now (taken .exit)) r ≡ keep (covered (wordsOf (now (others .entry)) m)) (wordsOf (now (set .entry)) n))
         × (wordsOf (now (rest .exit)) (n - r) ≡ keep (uncovered (wordsOf (now (others .entry)) m)) (wordsOf (now (set .entry)) n)) ⌝ }
 {
     let mut held = 0;
@@ -69,7 +69,7 @@ fn part(
     while i < n {
         let p = set[i];
         if words::covers(others, m, p) {
-            covered[held] = p;
+            taken[held] = p;
             held += 1;
         } else {
             rest[i - held] = p;
@@ -204,34 +204,41 @@ fn keep_rows(
 
 // The maximal ones of the lesser counts of all pairs of two lists. A position that the other list
 // covers is a pair itself, and its other pairs are below it: what is left to pair are the rest.
-pub fn pairs(a: &[u64], an: usize, e: &[u64], en: usize, out: &mut [u64], room: usize) -> Found
-    requires { ⌜ (an ≤ length (now a)) × (an ≤ 256) × (en ≤ length (now e)) × (en ≤ 256) × (room ≤ length (now out)) × (256 ≤ length (now out)) ⌝ }
-    ensures { λ r. ⌜ HoldsWords room (paired (wordsOf (now (a .entry)) an) (wordsOf (now (e .entry)) en)) (now (out .exit)) r ⌝ }
+pub fn pairs(set: &[u64], n: usize, backs: &[u64], m: usize, out: &mut [u64], room: usize) -> Found
+    requires { ⌜ (n ≤ length (now set)) × (n ≤ 256) × (m ≤ length (now backs)) × (m ≤ 256) × (room ≤ length (now out)) × (256 ≤ length (now out)) ⌝ }
+    ensures { λ r. ⌜ HoldsWords room (paired (wordsOf (now (set .entry)) n) (wordsOf (now (backs .entry)) m)) (now (out .exit)) r ⌝ }
 {
     let mut xs = [0u64; 256];
-    let whole = part(a, an, e, en, out, &mut xs);
+    let whole = part(set, n, backs, m, out, &mut xs);
     if room < whole {
         return Found::Full;
     }
     let mut fits = [0u64; 256];
     let mut ys = [0u64; 256];
-    let fitting = part(e, en, a, an, &mut fits, &mut ys);
+    let fitting = part(backs, m, set, n, &mut fits, &mut ys);
     let found = keep_list(&fits, fitting, out, whole, room);
-    let Found::Number(n) = found else {
+    let Found::Number(kept) = found else {
         return Found::Full;
     };
-    keep_rows(&xs, an - whole, &ys, en - fitting, out, n, room)
+    keep_rows(&xs, n - whole, &ys, m - fitting, out, kept, room)
 }
 
 // The maximal ones of two lists together.
-pub fn together(b: &[u64], bn: usize, e: &[u64], en: usize, out: &mut [u64], room: usize) -> Found
-    requires { ⌜ (bn ≤ length (now b)) × (bn ≤ 256) × (en ≤ length (now e)) × (room ≤ length (now out)) × (256 ≤ length (now out)) ⌝ }
-    ensures { λ r. ⌜ HoldsWords room (united (wordsOf (now (b .entry)) bn) (wordsOf (now (e .entry)) en)) (now (out .exit)) r ⌝ }
+pub fn together(
+    set: &[u64],
+    n: usize,
+    backs: &[u64],
+    m: usize,
+    out: &mut [u64],
+    room: usize,
+) -> Found
+    requires { ⌜ (n ≤ length (now set)) × (n ≤ 256) × (m ≤ length (now backs)) × (room ≤ length (now out)) × (256 ≤ length (now out)) ⌝ }
+    ensures { λ r. ⌜ HoldsWords room (united (wordsOf (now (set .entry)) n) (wordsOf (now (backs .entry)) m)) (now (out .exit)) r ⌝ }
 {
-    let mut covered = [0u64; 256];
-    let gone = part(b, bn, e, en, &mut covered, out);
-    if room < bn - gone {
+    let mut dropped = [0u64; 256];
+    let gone = part(set, n, backs, m, &mut dropped, out);
+    if room < n - gone {
         return Found::Full;
     }
-    keep_list(e, en, out, bn - gone, room)
+    keep_list(backs, m, out, n - gone, room)
 }

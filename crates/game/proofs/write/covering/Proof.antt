@@ -12,7 +12,8 @@ use Rattle.meaning.specs.Counting.{below}
 use Rattle.meaning.specs.Written.{covering}
 use Rattle.counts.specs.Cells.{cells}
 use Rattle.sets.specs.Members.{members}
-use Rattle.sets.proofs.Members.{members-length, members-more, members-after, members-split, none-more, place-none, place-first}
+use Rattle.sets.proofs.Members.{members-length, members-more, members-after, members-split}
+use Rattle.sets.proofs.OneMore.{none-more, place-none, place-first}
 use Rattle.game.proofs.write.covering.Statement.{statement}
 use Rattle.game.proofs.write.covering.Tie as tie
 

@@ -7,16 +7,16 @@ use Prim.Native.Nat.{_≤_, _-_, zero-le}
 use native.Mathlib.Omega.{arith}
 use borrow.Author.Needs.{needs}
 use lib.ListN.{getD}
-use Rattle.meaning.specs.Lists.{any}
-use Rattle.meaning.specs.Counting.{below}
+use Rattle.meaning.specs.Counting.{below, covered}
 use Rattle.counts.specs.Cells.{cells}
 use Rattle.sets.specs.Members.{members}
-use Rattle.sets.proofs.Members.{members-beyond, members-more, members-split, none-more, one-here}
+use Rattle.sets.proofs.Members.{members-beyond, members-more, members-split}
+use Rattle.sets.proofs.OneMore.{none-more, one-here}
 use Rattle.sets.proofs.list.covers.Statement.{statement}
 use Rattle.sets.proofs.list.covers.Tie as tie
 
 abbrev Inv-loop : tie.InvT-loop
-Inv-loop set n p i₀ i = (i ≤ n) × (any (below (cells p)) (members set i) ≡ false)
+Inv-loop set n p i₀ i = (i ≤ n) × (covered (members set i) (cells p) ≡ false)
 
 abbrev μ-loop : tie.MeasureT-loop
 μ-loop set n p i₀ i = n - i

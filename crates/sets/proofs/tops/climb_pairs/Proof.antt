@@ -10,9 +10,9 @@ use lib.ListN.{length, getD}
 use Rattle.sets.specs.Tops.{meets}
 use Rattle.counts.specs.Words.{countsIn}
 use Rattle.sets.specs.Members.{words}
-use Rattle.sets.specs.Climb.{climbed}
+use Rattle.sets.specs.Candidates.{climbed}
 use Rattle.sets.proofs.Members.{words-whole, words-more}
-use Rattle.sets.proofs.Pairs.{rows-up, rows-past}
+use Rattle.sets.proofs.ClimbPairs.{rows-up, rows-past}
 use Rattle.sets.proofs.tops.climb_pairs.Statement.{statement}
 use Rattle.sets.proofs.tops.climb_pairs.Tie as tie
 

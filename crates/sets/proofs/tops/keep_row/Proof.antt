@@ -10,18 +10,19 @@ use native.Mathlib.Omega.{arith}
 use borrow.Author.Needs.{needs}
 use lib.ListN.{getD}
 use Rattle.meaning.specs.Lists.{any}
-use Rattle.meaning.specs.Counting.{below}
+use Rattle.meaning.specs.Counting.{below, covered}
 use Rattle.sets.specs.Tops.{meets}
 use Rattle.counts.specs.Words.{countsIn}
 use Rattle.sets.specs.Members.{words}
-use Rattle.sets.proofs.Members.{words-more, words-last, words-after, words-split, any-past, one-here}
+use Rattle.sets.proofs.Members.{words-more, words-last, words-after, words-split}
+use Rattle.sets.proofs.OneMore.{any-past, one-here}
 use Rattle.sets.proofs.Collect.{Collects, collects-none, collects-whole, collects-pass, collects-put, collects-full}
 use Rattle.sets.proofs.tops.keep_row.Statement.{statement}
 use Rattle.sets.proofs.tops.keep_row.Tie as tie
 
 abbrev Inv-loop : tie.InvT-loop
 Inv-loop row n xs ys out kept room number j p i₀ i =
-    (i ≤ number) × (any (below (countsIn p)) (words out number) ≡ any (below (countsIn p)) (words out i))
+    (i ≤ number) × (covered (words out number) (countsIn p) ≡ covered (words out i) (countsIn p))
 
 abbrev μ-loop : tie.MeasureT-loop
 μ-loop row n xs ys out kept room number j p i₀ i = i
@@ -37,7 +38,7 @@ abbrev μ-candidates : tie.MeasureT-candidates
 scanned : (c : tie.After-loop Inv-loop μ-loop Inv-candidates μ-candidates) →
     let outer = c .before .before .before .before in
     let all = outer .before .before .before .before .before .args .row .now in
-    any (below (countsIn (getD all (outer .candidates .j) 0))) (words (outer .candidates .out) (outer .candidates .number)) ≡ false
+    covered (words (outer .candidates .out) (outer .candidates .number)) (countsIn (getD all (outer .candidates .j) 0)) ≡ false
 unfolding words
 scanned c =
     let at = c .before in
@@ -87,11 +88,11 @@ candidates-again c =
     let out = outer .candidates .out in
     let i = at .loop .i in
     let F = countsIn (getD all (outer .candidates .j) 0) in
-    let covered : any (below F) (words out i) ≡ true =
+    let above : covered (words out i) F ≡ true =
     rw (words-last out i (turn .loop-test .taken) (omega arith))
     (one-here (below F) (words out (i - 1)) (countsIn (getD out (i - 1) 0)) [] (sym (called .below .ensures) ∙ c .if1 .taken)) in (
       omega arith,
-      rw (words-more all (outer .candidates .j) (omega arith)) (collects-pass (outer .candidates .inv .1) F (at .loop .inv .1 ∙ covered)),
+      rw (words-more all (outer .candidates .j) (omega arith)) (collects-pass (outer .candidates .inv .1) F (at .loop .inv .1 ∙ above)),
     )
 
 loop-less : tie.Need-loop-less Inv-loop μ-loop Inv-candidates μ-candidates

@@ -6,8 +6,9 @@ use native.Mathlib.Omega.{arith}
 use borrow.Author.Needs.{needs}
 use lib.ListN.{length}
 use Rattle.meaning.specs.Lists.{keep}
+use Rattle.meaning.specs.Counting.{covered}
 use Rattle.sets.specs.Members.{words, HoldsWords}
-use Rattle.sets.specs.Climb.{collected, covering, uncovered, paired}
+use Rattle.sets.specs.Candidates.{collected, uncovered, paired}
 use Rattle.sets.proofs.Members.{words-length, held-full, full-held, number-held}
 use Rattle.sets.proofs.Collect.{collected-grows, rows-grow}
 use Rattle.sets.proofs.tops.pairs.Statement.{statement}
@@ -18,9 +19,9 @@ whole-kept : (c : tie.After-keep-list) →
     let second = c .before .before .before .before .before in
     let first = second .before .before .before .before .before .before .before in
     let given = first .before .before .before .before .before .before .args in
-    let A = words (given .a .now) (given .an) in
-    let E = words (given .e .now) (given .en) in
-    HoldsWords (given .room) (collected [] (keep (covering E) A) (keep (covering A) E)) (c .keep-list .last .1 .1 .0) (c .keep-list .result)
+    let A = words (given .set .now) (given .n) in
+    let E = words (given .backs .now) (given .m) in
+    HoldsWords (given .room) (collected [] (keep (covered E) A) (keep (covered A) E)) (c .keep-list .last .1 .1 .0) (c .keep-list .result)
 whole-kept c =
     let second = c .before .before .before .before .before in
     let first = second .before .before .before .before .before .before .before in
@@ -40,14 +41,14 @@ unfolding paired
 returns c =
     let called = c .before .before .before .before in
     let given = called .before .before .before .before .before .before .args in
-    let A = words (given .a .now) (given .an) in
-    let E = words (given .e .now) (given .en) in
+    let A = words (given .set .now) (given .n) in
+    let E = words (given .backs .now) (given .m) in
     held-full
     (omega (
       arith,
-      rows-grow (keep (uncovered E) A) (keep (uncovered A) E) (collected [] (keep (covering E) A) (keep (covering A) E)),
-      collected-grows [] (keep (covering E) A) (keep (covering A) E),
-      ap length {y = keep (covering E) A} (called .part .ensures .1),
+      rows-grow (keep (uncovered E) A) (keep (uncovered A) E) (collected [] (keep (covered E) A) (keep (covered A) E)),
+      collected-grows [] (keep (covered E) A) (keep (covered A) E),
+      ap length {y = keep (covered E) A} (called .part .ensures .1),
       words-length (called .part .last .1 .1 .1 .1 .0) (called .part .result) (omega (arith, called .part .kept .1 .1 .1 .1 .0)),
     ))
 
@@ -82,13 +83,13 @@ returns-2 c =
     let second = called .before .before .before .before .before in
     let first = second .before .before .before .before .before .before .before in
     let given = first .before .before .before .before .before .before .args in
-    let A = words (given .a .now) (given .an) in
-    let E = words (given .e .now) (given .en) in
+    let A = words (given .set .now) (given .n) in
+    let E = words (given .backs .now) (given .m) in
     held-full
     (omega (
       arith,
       full-held (whole-kept called) (c .enum-told .given .1),
-      rows-grow (keep (uncovered E) A) (keep (uncovered A) E) (collected [] (keep (covering E) A) (keep (covering A) E)),
+      rows-grow (keep (uncovered E) A) (keep (uncovered A) E) (collected [] (keep (covered E) A) (keep (covered A) E)),
     ))
 
 slice-aggregate-keep-rows : tie.Need-slice-aggregate-keep-rows

@@ -1,4 +1,4 @@
--- `part`: the loop's invariant is that `covered` holds those of the first i positions that the other list covers, and `rest` those that it does not; one
+-- `part`: the loop's invariant is that `taken` holds those of the first i positions that the other list covers, and `rest` those that it does not; one
 -- more position is kept by one of the two tests and dropped by the other. The measure is the number of positions left. Assumes nothing.
 use mathlib.Core.Path.{_≡_, refl, sym, ap, _∙_}
 use mathlib.Core.Logic.{⊎-elim}
@@ -8,21 +8,22 @@ use native.Mathlib.Omega.{arith}
 use borrow.Author.Needs.{needs}
 use lib.ListN.{length, getD, length-set}
 use Rattle.meaning.specs.Lists.{keep}
+use Rattle.meaning.specs.Counting.{covered}
 use Rattle.counts.specs.Words.{countsIn}
 use Rattle.sets.specs.Members.{words}
-use Rattle.sets.specs.Climb.{covering, uncovered}
+use Rattle.sets.specs.Candidates.{uncovered}
 use Rattle.sets.proofs.Members.{words-more, words-store}
-use Rattle.sets.proofs.Keeps.{keep-more, keep-past}
+use Rattle.sets.proofs.OneMore.{keep-more, keep-past}
 use Rattle.sets.proofs.tops.part.Statement.{statement}
 use Rattle.sets.proofs.tops.part.Tie as tie
 
 abbrev Inv-loop : tie.InvT-loop
-Inv-loop set n others m covered₀ rest₀ held₀ i₀ covered rest held i =
-    (i ≤ n) × (held ≤ i) × (length covered ≡ length covered₀) × (length rest ≡ length rest₀)
-    × (words covered held ≡ keep (covering (words others m)) (words set i)) × (words rest (i - held) ≡ keep (uncovered (words others m)) (words set i))
+Inv-loop set n others m taken₀ rest₀ held₀ i₀ taken rest held i =
+    (i ≤ n) × (held ≤ i) × (length taken ≡ length taken₀) × (length rest ≡ length rest₀)
+    × (words taken held ≡ keep (covered (words others m)) (words set i)) × (words rest (i - held) ≡ keep (uncovered (words others m)) (words set i))
 
 abbrev μ-loop : tie.MeasureT-loop
-μ-loop set n others m covered₀ rest₀ held₀ i₀ covered rest held i = n - i
+μ-loop set n others m taken₀ rest₀ held₀ i₀ taken rest held i = n - i
 
 loop-holds : tie.Need-loop-holds Inv-loop μ-loop
 unfolding words
@@ -37,11 +38,11 @@ shared-slice-read-p c = search needs
 covers-requires : tie.Need-covers-requires Inv-loop μ-loop
 covers-requires c κs = search needs
 
-mul-covered : tie.Need-mul-covered Inv-loop μ-loop
-mul-covered c = search needs
+mul-taken : tie.Need-mul-taken Inv-loop μ-loop
+mul-taken c = search needs
 
-slice-write-covered : tie.Need-slice-write-covered Inv-loop μ-loop
-slice-write-covered c = search needs
+slice-write-taken : tie.Need-slice-write-taken Inv-loop μ-loop
+slice-write-taken c = search needs
 
 add-held : tie.Need-add-held Inv-loop μ-loop
 add-held c = search needs
@@ -75,30 +76,30 @@ loop-again c =
     let inv = at .loop .inv in
     ⊎-elim
     (λ w.
-    let test : covering others (countsIn p) ≡ true = sym (called .covers .ensures) ∙ w .0 .taken in
+    let test : covered others (countsIn p) ≡ true = sym (called .covers .ensures) ∙ w .0 .taken in
     let e : i + 1 - (held + 1) ≡ i - held = omega arith in (
       omega arith,
       rw (w .3) (omega arith),
-      rw (w .1, length-set (at .loop .covered) held p) (inv .2),
+      rw (w .1, length-set (at .loop .taken) held p) (inv .2),
       rw (w .2) (inv .3),
       rw (
         w .1,
         w .3,
-        words-store (at .loop .covered) held p (omega arith),
+        words-store (at .loop .taken) held p (omega arith),
         inv .4,
         words-more all i (omega arith),
-        keep-more (covering others) (words all i) (countsIn p) test,
+        keep-more (covered others) (words all i) (countsIn p) test,
       ),
       rw (w .2, w .3, e, inv .5, words-more all i (omega arith), keep-past (uncovered others) (words all i) (countsIn p) (ap not test)),
     ))
     (λ w.
-    let test : covering others (countsIn p) ≡ false = sym (called .covers .ensures) ∙ w .0 .left in
+    let test : covered others (countsIn p) ≡ false = sym (called .covers .ensures) ∙ w .0 .left in
     let e : i + 1 - held ≡ i - held + 1 = omega arith in (
       omega arith,
       rw (w .3) (omega arith),
       rw (w .1) (inv .2),
       rw (w .2, length-set (at .loop .rest) (i - held) p) (inv .3),
-      rw (w .1, w .3, inv .4, words-more all i (omega arith), keep-past (covering others) (words all i) (countsIn p) test),
+      rw (w .1, w .3, inv .4, words-more all i (omega arith), keep-past (covered others) (words all i) (countsIn p) test),
       rw (
         w .2,
         w .3,
@@ -134,8 +135,8 @@ part-spec =
     mul-p
     shared-slice-read-p
     covers-requires
-    mul-covered
-    slice-write-covered
+    mul-taken
+    slice-write-taken
     add-held
     sub-rest
     mul-rest

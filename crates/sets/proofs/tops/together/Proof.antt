@@ -8,7 +8,7 @@ use borrow.Author.Needs.{needs}
 use lib.ListN.{length}
 use Rattle.meaning.specs.Lists.{keep}
 use Rattle.sets.specs.Members.{words}
-use Rattle.sets.specs.Climb.{uncovered, united}
+use Rattle.sets.specs.Candidates.{uncovered, united}
 use Rattle.sets.proofs.Members.{words-length, held-full}
 use Rattle.sets.proofs.Collect.{collected-grows}
 use Rattle.sets.proofs.tops.together.Statement.{statement}
@@ -31,14 +31,14 @@ unfolding united
 returns c =
     let called = c .before .before .before .before in
     let given = called .before .before .before .before .before .before .args in
-    let E = words (given .e .now) (given .en) in
-    let left = keep (uncovered E) (words (given .b .now) (given .bn)) in
+    let E = words (given .backs .now) (given .m) in
+    let left = keep (uncovered E) (words (given .set .now) (given .n)) in
     held-full
     (omega (
       arith,
       collected-grows [] left E,
       ap length {y = left} (called .part .ensures .2),
-      words-length (called .part .last .1 .1 .1 .1 .1 .0) (given .bn - called .part .result) (omega (arith, called .part .kept .1 .1 .1 .1 .1 .0)),
+      words-length (called .part .last .1 .1 .1 .1 .1 .0) (given .n - called .part .result) (omega (arith, called .part .kept .1 .1 .1 .1 .1 .0)),
     ))
 
 sub-keep-list : tie.Need-sub-keep-list

@@ -2,8 +2,8 @@
 -- has not covered yet.
 use mathlib.Core.Bool.{Bool, cond, not}
 use mathlib.Core.List.{List, [], _∷_, _++_, map, reverse}
-use Rattle.meaning.specs.Lists.{any, keep}
-use Rattle.meaning.specs.Counting.{Position, below}
+use Rattle.meaning.specs.Lists.{keep}
+use Rattle.meaning.specs.Counting.{Position, below, covered}
 use Rattle.counts.specs.Cells.{lesserCounts}
 use Rattle.sets.specs.Tops.{meets, thinned}
 
@@ -14,19 +14,16 @@ climbed (G ∷ rest) F = climbed rest (cond (below F G) G F)
 
 -- a position that a kept one covers is passed over; from any other the maximal one that it climbs to is added to those kept
 unfoldable pub keepOne : List Position → List Position → Position → List Position
-keepOne Fs l F = cond (any (below F) l) l (l ++ climbed Fs F ∷ [])
+keepOne Fs l F = cond (covered l F) l (l ++ climbed Fs F ∷ [])
 
 -- those kept after a run over some candidates
 unfoldable pub collected : List Position → List Position → List Position → List Position
 collected Fs l [] = l
 collected Fs l (F ∷ rest) = collected Fs (keepOne Fs l F) rest
 
--- a list covers a position, or does not
-abbrev pub covering : List Position → Position → Bool
-covering l F = any (below F) l
-
+-- a list does not cover a position
 abbrev pub uncovered : List Position → Position → Bool
-uncovered l F = not (any (below F) l)
+uncovered l F = not (covered l F)
 
 -- those kept after a run over the pairs of two lists: of each of the first with all of the second
 unfoldable pub rowsOf : List Position → List Position → List Position → List Position
@@ -35,7 +32,7 @@ rowsOf (x ∷ xs) ys l = rowsOf xs ys (collected (meets xs ys) l (thinned (rever
 
 -- the maximal ones of the lesser counts of all pairs: those that the other list covers, and what the rest come to
 unfoldable pub paired : List Position → List Position → List Position
-paired X Y = rowsOf (keep (uncovered Y) X) (keep (uncovered X) Y) (collected [] (keep (covering Y) X) (keep (covering X) Y))
+paired X Y = rowsOf (keep (uncovered Y) X) (keep (uncovered X) Y) (collected [] (keep (covered Y) X) (keep (covered X) Y))
 
 -- the maximal ones of two lists together: those of the first that the second does not cover, and what the second adds
 unfoldable pub united : List Position → List Position → List Position

@@ -1,32 +1,17 @@
 -- Climbing over the lesser counts of pairs, member by member: a position below x is below the lesser counts of x and y exactly if it is below y,
 -- and one that is not below x is below no pair of x. Assumes nothing.
-use mathlib.Core.Path.{_≡_, refl, sym, ap, _∙_}
+use mathlib.Core.Path.{_≡_, sym, ap, _∙_}
 use mathlib.Core.Bool.{true, false}
-use mathlib.Core.List.{List, [], _∷_, _++_, map, flatMap, append-nil, append-assoc, map-append, Memᴰ·of-map, List·Memᴰ}
+use mathlib.Core.List.{List, [], _∷_, _++_, map, map-append, Memᴰ·of-map, List·Memᴰ}
 use Rattle.meaning.specs.Counting.{Position, below}
 use Rattle.meaning.proofs.Tests.{clash, refuted}
 use Rattle.meaning.proofs.Steps.{below-trans}
 use Rattle.counts.specs.Cells.{lesserCounts}
-use Rattle.sets.specs.Tops.{meets}
-use Rattle.sets.specs.Climb.{climbed}
 use Rattle.counts.proofs.Lesser.{lesser-left, lesser-right, lesser-of}
+use Rattle.sets.specs.Tops.{meets}
+use Rattle.sets.specs.Candidates.{climbed}
 use Rattle.sets.proofs.Climb.{climbed-append, climbed-up, climbed-past, climbed-none}
-
--- the pairs of two lists of members, of those around one, and of one more
-meets-append : (Es Fs Gs : List Position) → meets (Es ++ Fs) Gs ≡ meets Es Gs ++ meets Fs Gs
-unfolding meets flatMap
-meets-append [] Fs Gs = refl
-meets-append (E ∷ Es) Fs Gs =
-    ap (λ (l : List Position). map (lesserCounts E) Gs ++ l) (meets-append Es Fs Gs) ∙ sym (append-assoc (map (lesserCounts E) Gs) (meets Es Gs) (meets Fs Gs))
-
-pub meets-around : (Es : List Position) (F : Position) (rest Gs : List Position)
-    → meets (Es ++ F ∷ rest) Gs ≡ meets Es Gs ++ (map (lesserCounts F) Gs ++ meets rest Gs)
-unfolding meets flatMap
-meets-around Es F rest Gs = meets-append Es (F ∷ rest) Gs
-
-pub meets-more : (Es : List Position) (F : Position) (Gs : List Position) → meets (Es ++ F ∷ []) Gs ≡ meets Es Gs ++ map (lesserCounts F) Gs
-unfolding meets flatMap
-meets-more Es F Gs = meets-around Es F [] Gs ∙ ap (λ (l : List Position). meets Es Gs ++ l) (append-nil (map (lesserCounts F) Gs))
+use Rattle.sets.proofs.Meets.{meets-more}
 
 -- over the pairs of x: one more that is above, and one more that is not
 module _ (x : Position) (l : List Position) (F T y : Position) (reached : T ≡ climbed (map (lesserCounts x) l) F) where

@@ -1,5 +1,5 @@
 -- A run over candidates that passes by what a kept one covers and keeps what any other climbs to (`collected`): it keeps maximal ones, each once
--- (`Run`), if whatever is over a candidate that none covered at first stands in the list that it climbs along; and it covers each candidate. A run
+-- (`Picked`), if whatever is over a candidate that none covered at first stands in the list that it climbs along; and it covers each candidate. A run
 -- that has covered all keeps the tops. Assumes nothing.
 use mathlib.Core.Path.{_≡_, refl, sym, ap, _∙_}
 use mathlib.Core.Logic.{⊎-elim}
@@ -9,24 +9,23 @@ use mathlib.Core.List.{List·Memᴰ, List·Memᴰ·head, List·Memᴰ·tail, Lis
 use Prim.Native.Nat.{ℕ}
 use native.Mathlib.Omega.{arith}
 use lib.ListN.{length, length-append}
-use Rattle.meaning.specs.Lists.{any}
-use Rattle.meaning.specs.Counting.{Position, below}
+use Rattle.meaning.specs.Counting.{Position, below, covered}
 use Rattle.meaning.proofs.Tests.{clash, cond-cases}
 use Rattle.meaning.proofs.Lists.{any-at, any-of}
 use Rattle.meaning.proofs.Steps.{below-refl, below-trans}
 use Rattle.sets.specs.Tops.{tops, sorted}
-use Rattle.sets.specs.Climb.{climbed, keepOne, collected}
+use Rattle.sets.specs.Candidates.{climbed, keepOne, collected}
 use Rattle.sets.proofs.Sorted.{sorted-more, sorted-own, sorted-member, member-sorted, put-new}
 use Rattle.sets.proofs.Kept.{Sized, Kept, Covered, kept-put, top-alone, tops-only}
 use Rattle.sets.proofs.Climb.{Climbing, climbed-above, climbed-top}
 
 -- a list keeps maximal ones of Fs, each once
-pub record Run (Fs l : List Position) : Type 0 where
+pub record Picked (Fs l : List Position) : Type 0 where
   pub kept : Kept Fs (sorted l)
   pub different : length (sorted l) ≡ length l
 
-pub run-own : (Fs l : List Position) → Kept Fs l → Run Fs l
-run-own Fs l k = let e = sorted-own l (k .ascends) in record { kept = rw e k; different = ap length e }
+pub picked-own : (Fs l : List Position) → Kept Fs l → Picked Fs l
+picked-own Fs l k = let e = sorted-own l (k .ascends) in record { kept = rw e k; different = ap length e }
 
 -- nothing of a list is over a position, so there is nothing to climb to
 pub climbing-none : (Fs Cs : List Position) (F : Position) → ((G : Position) → List·Memᴰ G Fs → below F G ≡ true → F ≡ G) → Climbing Fs Cs F
@@ -34,9 +33,9 @@ climbing-none Fs Cs F top G m a b = absurd (clash (below G F) (rw (top G m a) (b
 
 -- one more candidate: what was kept is, and it is covered
 module _ (Cs l : List Position) (F : Position) where
-  one-cases : (P : List Position → Type 0) → (any (below F) l ≡ true → P l) → (any (below F) l ≡ false → P (l ++ climbed Cs F ∷ [])) → P (keepOne Cs l F)
+  one-cases : (P : List Position → Type 0) → (covered l F ≡ true → P l) → (covered l F ≡ false → P (l ++ climbed Cs F ∷ [])) → P (keepOne Cs l F)
   unfolding keepOne
-  one-cases P = cond-cases (any (below F) l) l (l ++ climbed Cs F ∷ []) P
+  one-cases P = cond-cases (covered l F) l (l ++ climbed Cs F ∷ []) P
 
   one-keeps : (G : Position) → List·Memᴰ G l → List·Memᴰ G (keepOne Cs l F)
   one-keeps G m = one-cases (List·Memᴰ G) (λ _. m) (λ _. Memᴰ·append-left (climbed Cs F ∷ []) m)
@@ -60,13 +59,13 @@ collected-covers Cs l (G ∷ rest) F c =
 
 module _ (n : ℕ) (Fs : List Position) (s : Sized n Fs) where
   -- one more
-  one-run : (Cs l : List Position) (F : Position) → ((G : Position) → List·Memᴰ G Cs → List·Memᴰ G Fs) → Run Fs l → List·Memᴰ F Fs
-      → ((Covered l F → ⊥) → Climbing Fs Cs F) → Run Fs (keepOne Cs l F)
-  one-run Cs l F within run m climb = one-cases Cs l F (Run Fs) (λ _. run) more
+  one-run : (Cs l : List Position) (F : Position) → ((G : Position) → List·Memᴰ G Cs → List·Memᴰ G Fs) → Picked Fs l → List·Memᴰ F Fs
+      → ((Covered l F → ⊥) → Climbing Fs Cs F) → Picked Fs (keepOne Cs l F)
+  one-run Cs l F within run m climb = one-cases Cs l F (Picked Fs) (λ _. run) more
     where
-      more : any (below F) l ≡ false → Run Fs (l ++ climbed Cs F ∷ [])
+      more : covered l F ≡ false → Picked Fs (l ++ climbed Cs F ∷ [])
       more c =
-          let new : Covered l F → ⊥ = λ d. clash (any (below F) l) (any-of (below F) l (d .0) (d .1) (d .2)) c in
+          let new : Covered l F → ⊥ = λ d. clash (covered l F) (any-of (below F) l (d .0) (d .1) (d .2)) c in
           let T = climbed Cs F in
           let t = climbed-top Fs Cs within F m (climb new) in
           record {
@@ -76,20 +75,20 @@ module _ (n : ℕ) (Fs : List Position) (s : Sized n Fs) where
           }
 
   -- all of them
-  pub collected-run : (Cs l rest : List Position) → ((G : Position) → List·Memᴰ G Cs → List·Memᴰ G Fs) → Run Fs l
+  pub collected-picked : (Cs l rest : List Position) → ((G : Position) → List·Memᴰ G Cs → List·Memᴰ G Fs) → Picked Fs l
       → ((F : Position) → List·Memᴰ F rest → List·Memᴰ F Fs) → ((F : Position) → List·Memᴰ F rest → (Covered l F → ⊥) → Climbing Fs Cs F)
-      → Run Fs (collected Cs l rest)
+      → Picked Fs (collected Cs l rest)
   unfolding collected
-  collected-run Cs l [] within run among climb = run
-  collected-run Cs l (F ∷ rest) within run among climb =
-      collected-run Cs (keepOne Cs l F) rest within (one-run Cs l F within run (among F (List·Memᴰ·head refl)) (climb F (List·Memᴰ·head refl)))
+  collected-picked Cs l [] within run among climb = run
+  collected-picked Cs l (F ∷ rest) within run among climb =
+      collected-picked Cs (keepOne Cs l F) rest within (one-run Cs l F within run (among F (List·Memᴰ·head refl)) (climb F (List·Memᴰ·head refl)))
       (λ G m. among G (List·Memᴰ·tail m))
       (λ G m new. climb G (List·Memᴰ·tail m) (λ c. new (c .0, one-keeps Cs l F (c .0) (c .1), c .2)))
 
   -- where all is covered, the tops are kept
-  pub run-tops : (l : List Position) → Run Fs l → ((F : Position) → List·Memᴰ F Fs → Covered l F)
+  pub picked-tops : (l : List Position) → Picked Fs l → ((F : Position) → List·Memᴰ F Fs → Covered l F)
       → (sorted l ≡ tops Fs) × (length l ≡ length (tops Fs))
-  run-tops l run covers = (e, sym (run .different) ∙ ap length e)
+  picked-tops l run covers = (e, sym (run .different) ∙ ap length e)
     where
       e : sorted l ≡ tops Fs
       e = tops-only n Fs (sorted l) s (run .kept) (λ F m. let c = covers F m in (c .0, sorted-member l (c .0) (c .1), c .2))
