@@ -7,7 +7,7 @@ use lib.IntN.{ℤ, pos}
 use Rattle.meaning.specs.Lists.{tab, smallest}
 use Rattle.meaning.specs.Table as T
 use Rattle.meaning.specs.Table.{bit}
-use Rattle.meaning.specs.Counting.{Position, oneHigher, count}
+use Rattle.meaning.specs.Counting.{Position, oneHigher, count, plus}
 use Rattle.counts.specs.declared.position.Half.{Half}
 
 -- the count that eight signed counts have at state q, one higher
@@ -38,5 +38,5 @@ halfOf h =
     }
 
 -- the start position that a mask of start states gives a side of n states
-unfoldable pub startCounts : ℕ → ℕ → Position
-startCounts n starts = tab n (λ q. cond (bit starts q) 1 0)
+unfoldable pub startCounts : ℕ → ℕ → ℕ → Position
+startCounts K n starts = tab n (λ q. cond (bit starts q) (plus K 0 1) 0)

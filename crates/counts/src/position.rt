@@ -31,16 +31,6 @@ pub fn below(a: &[i8; 8], b: &[i8; 8]) -> bool
     held
 }
 
-// Whether the mask has the target.
-fn leads(mask: u8, q: usize) -> bool
-    ensures { λ r. ⌜ r ≡ bit mask q ⌝ }
-{
-    if q < 8 {
-        return (mask >> q) & 1 == 1;
-    }
-    false
-}
-
 // The largest count that a letter's edges bring to state q.
 fn arriving(m: &[i8; 8], half: Half, q: usize, k: usize) -> i8
     requires { ⌜ k ≤ 7 ⌝ }
@@ -53,7 +43,7 @@ fn arriving(m: &[i8; 8], half: Half, q: usize, k: usize) -> i8
     let mut p = 0;
     while p < 8 {
         if p < half.sources {
-            if leads(half.masks[p], q) {
+            if masks::has(half.masks[p], q) {
                 most = count::greater(most, count::plus(m[p], half.marks[q], k));
             }
         }
@@ -94,16 +84,17 @@ pub fn brim(k: usize, n: usize) -> [i8; 8]
     out
 }
 
-// The start position of a side of n states: 0 at each start state.
-pub fn start(starts: u8, n: usize) -> [i8; 8]
-    ensures { λ r. ⌜ cells r ≡ positionBytes (startCounts n starts) ⌝ }
+// The start position of a side of n states: 0 plus no mark at each start state.
+pub fn start(starts: u8, n: usize, k: usize) -> [i8; 8]
+    requires { ⌜ k ≤ 7 ⌝ }
+    ensures { λ r. ⌜ cells r ≡ positionBytes (startCounts k n starts) ⌝ }
 {
     let mut out = [-1i8; 8];
     let mut q = 0;
     while q < 8 {
         if q < n {
-            if leads(starts, q) {
-                out[q] = 0;
+            if masks::has(starts, q) {
+                out[q] = count::plus(0, 0, k);
             }
         }
         q += 1;

@@ -8,7 +8,7 @@ use native.Mathlib.Omega.{arith}
 use lib.ListN.{length, List·getD-eq-default}
 use lib.Dec.{eqb}
 use Rattle.meaning.specs.Records.{Record, recordsOf, at, blank, ofKind, controller, world, output, input}
-use Rattle.meaning.specs.Table.{tableOf, markOf, startOf, edgeOf}
+use Rattle.meaning.specs.Table.{tableOf, markOf, startsOf, edgeOf, startIn, markIn}
 use Rattle.meaning.specs.Checks.{tableChecks, Passes}
 use Rattle.meaning.proofs.Records.{edgeRecord, edge-member, Inside, inside-bytes}
 use Rattle.meaning.proofs.Sound.{Numbered, states-top, passes-sound}
@@ -26,16 +26,16 @@ module _ (rs : List Record) (within : (r : Record) → List·Memᴰ r rs → Ins
 
   module _ (controllers : Numbered (ofKind controller rs)) (worlds : Numbered (ofKind world rs)) where
     pub in-eight : InEight (tableOf rs)
-    unfolding tableOf startOf markOf
+    unfolding tableOf startsOf startIn markOf markIn
     in-eight =
         let beyond : (kind : ℕ) → length (ofKind kind rs) ≤ 8 → (q : ℕ) → 8 ≤ q → at (ofKind kind rs) q ≡ blank =
         λ kind few q h. List·getD-eq-default (ofKind kind rs) blank (omega arith) in
         let controller-beyond = beyond controller (states-top controller rs within controllers) in
         let world-beyond = beyond world (states-top world rs within worlds) in
         record {
-          starts = λ q h. ap (λ (r : Record). eqb (r .letter / 2) 1) (controller-beyond q h);
-          controllerMarks = λ q h. ap (λ (r : Record). r .letter % 2) (controller-beyond q h);
-          worldMarks = λ q h. ap (λ (r : Record). r .letter % 2) (world-beyond q h);
+          starts = λ q h. ap startIn (controller-beyond q h);
+          controllerMarks = λ q h. ap markIn (controller-beyond q h);
+          worldMarks = λ q h. ap markIn (world-beyond q h);
           outputEdges = near-edges output;
           inputEdges = near-edges input;
         }

@@ -11,6 +11,7 @@ use Rattle.meaning.specs.declared.Refusal.{Refusal}
 use Rattle.meaning.specs.Records.{recordsOf}
 use Rattle.meaning.specs.Table.{tableOf}
 use Rattle.meaning.specs.Checks.{Check, judge, tableChecks}
+use Rattle.meaning.specs.Checks as N
 use Rattle.meaning.proofs.Checks as C
 use Rattle.meaning.proofs.Checks.{Failure, first-failure, judge-fails}
 use Rattle.meaning.proofs.Sound.{other-which}
@@ -50,17 +51,17 @@ unfolding tableChecks
 judge-checked which bytes refuse grant = judge-cases which (tableChecks 0 bytes) refuse grant
 
 -- checks whose answer is that they pass do not fail
-none-fails : (cs : List Check) → checkedOf cs ≡ Passes → C.Passes cs
+none-fails : (cs : List Check) → checkedOf cs ≡ Passes → N.Passes cs
 none-fails cs p = go (first-failure cs)
   where
-    go : C.Passes cs ⊎ Failure cs → C.Passes cs
+    go : N.Passes cs ⊎ Failure cs → N.Passes cs
     go (inl q) = q
     go (inr f) =
         let told = judge-fails cs (λ c. Fails (c .refusal) (c .faultAt)) Passes (f .0) (f .1) (f .2) in
         let q : Fails (f .1 .refusal) (f .1 .faultAt) ≡ Passes = sym told ∙ p in
         absurd (let z : _≡_ {A = ℕ} 0 1 = cc in omega arith)
 
-pub passes-none-fails : (which : ℕ) (bytes : List ℕ) → checkedOf (tableChecks 0 bytes) ≡ Passes → C.Passes (tableChecks which bytes)
+pub passes-none-fails : (which : ℕ) (bytes : List ℕ) → checkedOf (tableChecks 0 bytes) ≡ Passes → N.Passes (tableChecks which bytes)
 passes-none-fails which bytes p = other-which 0 which bytes (none-fails (tableChecks 0 bytes) p)
 
 -- what the answer's two fields are

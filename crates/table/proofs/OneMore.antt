@@ -1,7 +1,7 @@
 -- What one record more adds to the states, letters, marks and starts of the table that records state. A state record is the next state of
 -- its side, whose number is the number of states before it. By the laws of appending. Assumes nothing.
 use mathlib.Core.Path.{_≡_, refl, sym, ap, ap₂, _∙_, subst⁻¹}
-use mathlib.Core.Bool.{Bool, _||_, or-true, or-false}
+use mathlib.Core.Bool.{Bool, _||_, or-true, or-false, false, true}
 use mathlib.Core.List.{List, [], _∷_, _++_, append-nil}
 use Prim.Native.Nat.{ℕ, suc, _+_, _/_, _%_, _≤_, _<_, max}
 use native.Mathlib.Decide.{decLt, ℕ-discrete}
@@ -13,7 +13,7 @@ use lib.Dec.{eqb}
 use borrow.Author.Tests.{eq-eqb, ne-eqb}
 use Rattle.meaning.specs.Lists.{tab, keep, largest}
 use Rattle.meaning.specs.Records.{Record, at, blank, ofKind, controller}
-use Rattle.meaning.specs.Table.{letters, markOf, startOf, bit}
+use Rattle.meaning.specs.Table.{letters, markOf, startsOf, bit, markIn, startIn}
 use Rattle.meaning.proofs.Tests.{largest-same}
 use Rattle.meaning.proofs.Lists.{keep-append, tab-length, tab-at, tab-same}
 use Rattle.meaning.proofs.Sizes.{keep-length}
@@ -103,49 +103,49 @@ module _ (kind : ℕ) (rs : List Record) (r : Record) (e : r .kind ≡ kind) whe
 
 -- marks
 pub marks-this : (kind : ℕ) (rs : List Record) (r : Record) (q : ℕ) → r .kind ≡ kind → q ≡ length (ofKind kind rs) → q < 8
-    → set (marks (markOf kind rs)) q (r .letter % 2) ≡ marks (markOf kind (rs ++ (r ∷ [])))
+    → set (marks (markOf kind rs)) q (markIn r) ≡ marks (markOf kind (rs ++ (r ∷ [])))
 unfolding marks markOf
 marks-this kind rs r q e l h =
-    let here : markOf kind (rs ++ (r ∷ [])) q ≡ r .letter % 2 = rw l (ap (λ (s : Record). s .letter % 2) (state-new kind rs r e)) in
+    let here : markOf kind (rs ++ (r ∷ [])) q ≡ markIn r = rw l (ap markIn (state-new kind rs r e)) in
     ap (λ (m : ℕ). set (marks (markOf kind rs)) q m) (sym here)
     ∙ tab-set 8 (markOf kind rs) (markOf kind (rs ++ (r ∷ []))) q h
-    (λ j _ d. ap (λ (s : Record). s .letter % 2) (sym (state-old kind rs r e j (λ w. d (w ∙ sym l)))))
+    (λ j _ d. ap markIn (sym (state-old kind rs r e j (λ w. d (w ∙ sym l)))))
 
 pub marks-full : (kind : ℕ) (rs : List Record) (r : Record) → r .kind ≡ kind → 8 ≤ length (ofKind kind rs)
     → marks (markOf kind rs) ≡ marks (markOf kind (rs ++ (r ∷ [])))
 unfolding marks markOf
 marks-full kind rs r e h =
     tab-same 8 (markOf kind rs) (markOf kind (rs ++ (r ∷ [])))
-    (λ j l. ap (λ (s : Record). s .letter % 2) (sym (state-old kind rs r e j (λ d. omega arith))))
+    (λ j l. ap markIn (sym (state-old kind rs r e j (λ d. omega arith))))
 
 pub marks-other : (kind : ℕ) (rs : List Record) (r : Record) → (r .kind ≡ kind → ⊥)
     → marks (markOf kind rs) ≡ marks (markOf kind (rs ++ (r ∷ [])))
 unfolding marks markOf
-marks-other kind rs r e = ap (λ (l : List Record). marks (λ q. at l q .letter % 2)) (sym (ofKind-other kind rs r e))
+marks-other kind rs r e = ap (λ (l : List Record). marks (λ q. markIn (at l q))) (sym (ofKind-other kind rs r e))
 
 -- starts
-pub starts-this : (rs : List Record) (r : Record) → r .kind ≡ controller → r .letter / 2 ≡ 1
-    → mask 8 (λ k. bit (mask 8 (startOf rs)) k || eqb k (length (ofKind controller rs))) ≡ mask 8 (startOf (rs ++ (r ∷ [])))
-unfolding startOf
+pub starts-this : (rs : List Record) (r : Record) → r .kind ≡ controller → startIn r ≡ true
+    → mask 8 (λ k. bit (mask 8 (startsOf rs)) k || eqb k (length (ofKind controller rs))) ≡ mask 8 (startsOf (rs ++ (r ∷ [])))
+unfolding startsOf
 starts-this rs r e start =
     let n = length (ofKind controller rs) in
-    mask-same 8 (λ k. bit (mask 8 (startOf rs)) k || eqb k n) (startOf (rs ++ (r ∷ [])))
-    (λ k h. ap (λ (b : Bool). b || eqb k n) (bit-of-mask (startOf rs) k h)
-    ∙ at-each (λ k. (startOf rs k || eqb k n) ≡ startOf (rs ++ (r ∷ [])) k) n
-    (rw (eq-eqb n n refl, state-new controller rs r e, or-true (startOf rs n)) (sym (eq-eqb (r .letter / 2) 1 start)))
-    (λ j d. rw (ne-eqb j n d, state-old controller rs r e j d) (or-false (startOf rs j))) k)
+    mask-same 8 (λ k. bit (mask 8 (startsOf rs)) k || eqb k n) (startsOf (rs ++ (r ∷ [])))
+    (λ k h. ap (λ (b : Bool). b || eqb k n) (bit-of-mask (startsOf rs) k h)
+    ∙ at-each (λ k. (startsOf rs k || eqb k n) ≡ startsOf (rs ++ (r ∷ [])) k) n
+    (rw (eq-eqb n n refl, state-new controller rs r e, or-true (startsOf rs n)) (sym start))
+    (λ j d. rw (ne-eqb j n d, state-old controller rs r e j d) (or-false (startsOf rs j))) k)
 
-pub starts-none : (rs : List Record) (r : Record) → r .kind ≡ controller → (r .letter / 2 ≡ 1 → ⊥)
-    → mask 8 (startOf rs) ≡ mask 8 (startOf (rs ++ (r ∷ [])))
-unfolding startOf
+pub starts-none : (rs : List Record) (r : Record) → r .kind ≡ controller → startIn r ≡ false
+    → mask 8 (startsOf rs) ≡ mask 8 (startsOf (rs ++ (r ∷ [])))
+unfolding startsOf startIn
 starts-none rs r e none =
     let n = length (ofKind controller rs) in
-    mask-same 8 (startOf rs) (startOf (rs ++ (r ∷ [])))
-    (λ k _. at-each (λ k. startOf rs k ≡ startOf (rs ++ (r ∷ [])) k) n
-    (rw (state-new controller rs r e, List·getD-eq-default (ofKind controller rs) blank {n = n} (omega arith)) (sym (ne-eqb (r .letter / 2) 1 none)))
+    mask-same 8 (startsOf rs) (startsOf (rs ++ (r ∷ [])))
+    (λ k _. at-each (λ k. startsOf rs k ≡ startsOf (rs ++ (r ∷ [])) k) n
+    (rw (state-new controller rs r e, List·getD-eq-default (ofKind controller rs) blank {n = n} (omega arith)) (sym none))
     (λ j d. rw (state-old controller rs r e j d)) k)
 
 pub starts-other : (rs : List Record) (r : Record) → (r .kind ≡ controller → ⊥)
-    → mask 8 (startOf rs) ≡ mask 8 (startOf (rs ++ (r ∷ [])))
-unfolding startOf
-starts-other rs r e = ap (λ (l : List Record). mask 8 (λ q. eqb (at l q .letter / 2) 1)) (sym (ofKind-other controller rs r e))
+    → mask 8 (startsOf rs) ≡ mask 8 (startsOf (rs ++ (r ∷ [])))
+unfolding startsOf
+starts-other rs r e = ap (λ (l : List Record). mask 8 (λ q. startIn (at l q))) (sym (ofKind-other controller rs r e))

@@ -7,7 +7,7 @@ ghost use mathlib.Core.Bool.{_&&_};
 ghost use lib.ListN.{length};
 ghost use lib.Dec.{eqb, ltb};
 ghost use Rattle.meaning.specs.Records.{recordsOf, ofKind};
-ghost use Rattle.meaning.specs.Table.{tableOf, letters as lettersOf, markOf, startOf, edgeOf};
+ghost use Rattle.meaning.specs.Table.{tableOf, letters as lettersOf, markOf, startsOf, edgeOf};
 ghost use Rattle.masks.specs.Mask.{mask};
 ghost use Rattle.table.specs.Packed.{packed, marks as marksOf, targets as targetsOf};
 
@@ -74,7 +74,7 @@ pub fn letters(bytes: &[u8], kind: u8) -> usize
 
 // The start states, as eight bits.
 fn starts(bytes: &[u8]) -> u8
-    ensures { λ r. ⌜ r ≡ mask 8 (startOf (recordsOf (now (bytes .entry)))) ⌝ }
+    ensures { λ r. ⌜ r ≡ mask 8 (startsOf (recordsOf (now (bytes .entry)))) ⌝ }
 {
     let mut set = 0u8;
     let mut q = 0;
@@ -82,7 +82,7 @@ fn starts(bytes: &[u8]) -> u8
     while i < bytes.len() / 4 {
         let r = record::at(bytes, i);
         if r.kind == record::CONTROLLER {
-            if r.letter / 2 == 1 {
+            if record::is_start(r) {
                 set = masks::with_state(set, q);
             }
             q += 1;
@@ -103,7 +103,7 @@ fn marks(bytes: &[u8], kind: u8) -> [u8; 8]
         let r = record::at(bytes, i);
         if r.kind == kind {
             if q < 8 {
-                marks[q] = r.letter % 2;
+                marks[q] = record::mark(r);
             }
             q += 1;
         }

@@ -1,6 +1,7 @@
 // One record: its four bytes, their limits, and the order of two records.
 ghost use mathlib.Core.Path.{_≡_};
 ghost use Rattle.meaning.specs.Records.{recordsOf, at as recordAt, outside as outsideLimits, ascends as ascendsTo};
+ghost use Rattle.meaning.specs.Table.{markIn, startIn};
 ghost use Rattle.table.specs.Packed.{recordIn};
 
 pub struct Record {
@@ -62,6 +63,20 @@ pub fn outside(r: Record) -> bool
         return true;
     }
     LIMITS[row][2] < r.to
+}
+
+// The mark of a state's record.
+pub fn mark(r: Record) -> u8
+    ensures { λ m. ⌜ m ≡ markIn (recordIn r) ⌝ }
+{
+    r.letter % 2
+}
+
+// Whether a state's record says that it is a start.
+pub fn is_start(r: Record) -> bool
+    ensures { λ b. ⌜ b ≡ startIn (recordIn r) ⌝ }
+{
+    r.letter / 2 == 1
 }
 
 // Whether the second record is above the first, compared as byte strings.

@@ -35,11 +35,11 @@ returns c =
 loop-holds : tie.Need-loop-holds Inv-loop μ-loop
 loop-holds c = search needs
 
-element-copy-out-leads : tie.Need-element-copy-out-leads Inv-loop μ-loop
-element-copy-out-leads c = search needs
+element-copy-out-has : tie.Need-element-copy-out-has Inv-loop μ-loop
+element-copy-out-has c = search needs
 
-leads-requires : tie.Need-leads-requires Inv-loop μ-loop
-leads-requires c κs = search needs
+has-requires : tie.Need-has-requires Inv-loop μ-loop
+has-requires c κs = search needs
 
 element-copy-out-plus : tie.Need-element-copy-out-plus Inv-loop μ-loop
 element-copy-out-plus c = search needs
@@ -97,8 +97,8 @@ arriving-spec =
     μ-loop
     returns
     loop-holds
-    element-copy-out-leads
-    leads-requires
+    element-copy-out-has
+    has-requires
     element-copy-out-plus
     element-copy-out-plus-2
     plus-requires

@@ -1,41 +1,45 @@
--- `start`: the loop's invariant is that `out` holds the start position's counts at the states before q. A turn stores 0 at a start state of the
--- side, and leaves -1 elsewhere. The measure is the number of states left. Assumes nothing.
-use mathlib.Core.Path.{_≡_, sym, _∙_}
+-- `start`: the loop's invariant is that `out` holds the start position's counts at the states before q. A turn stores 0 plus no mark at a start
+-- state of the side, and leaves -1 elsewhere. The measure is the number of states left. Assumes nothing.
+use mathlib.Core.Path.{_≡_, sym, ap, _∙_}
 use mathlib.Core.Bool.{cond}
 use mathlib.Core.Logic.{⊎-elim}
 use Prim.Native.Nat.{ℕ, _≤_, _<_, _-_}
 use borrow.Author.Needs.{needs}
 use lib.IntN.{pos}
 use Rattle.meaning.specs.Table.{bit}
-use Rattle.meaning.specs.Counting.{count}
+use Rattle.meaning.specs.Counting.{oneHigher, count, plus}
 use Rattle.meaning.proofs.Lists.{tab-at, tab-beyond}
 use Rattle.counts.specs.Cells.{startCounts}
+use Rattle.counts.proofs.Signed.{from-bits, plus-signed}
 use Rattle.counts.proofs.Cells.{Filled, filled-none, filled-store, filled-skip, filled-wide}
 use Rattle.counts.proofs.position.start.Statement.{statement}
 use Rattle.counts.proofs.position.start.Tie as tie
 
-starts-at : (n starts q : ℕ) → q < n → count (startCounts n starts) q ≡ cond (bit starts q) 1 0
+starts-at : (K n starts q : ℕ) → q < n → count (startCounts K n starts) q ≡ cond (bit starts q) (plus K 0 1) 0
 unfolding startCounts
-starts-at n starts q l = tab-at n _ q 0 l
+starts-at K n starts q l = tab-at n _ q 0 l
 
-starts-beyond : (n starts q : ℕ) → n ≤ q → count (startCounts n starts) q ≡ 0
+starts-beyond : (K n starts q : ℕ) → n ≤ q → count (startCounts K n starts) q ≡ 0
 unfolding startCounts
-starts-beyond n starts q l = tab-beyond n _ q 0 l
+starts-beyond K n starts q l = tab-beyond n _ q 0 l
 
 abbrev Inv-loop : tie.InvT-loop
-Inv-loop starts n out₀ q₀ out q = Filled (count (startCounts n starts)) q out
+Inv-loop starts n k out₀ q₀ out q = Filled (count (startCounts k n starts)) q out
 
 abbrev μ-loop : tie.MeasureT-loop
-μ-loop starts n out₀ q₀ out q = 8 - q
+μ-loop starts n k out₀ q₀ out q = 8 - q
 
 loop-holds : tie.Need-loop-holds Inv-loop μ-loop
 loop-holds c = filled-none _
 
-leads-requires : tie.Need-leads-requires Inv-loop μ-loop
-leads-requires c κs = search needs
+has-requires : tie.Need-has-requires Inv-loop μ-loop
+has-requires c κs = search needs
 
-array-set-of-out : tie.Need-array-set-of-out Inv-loop μ-loop
-array-set-of-out c = search needs
+plus-requires : tie.Need-plus-requires Inv-loop μ-loop
+plus-requires c κs = search needs
+
+array-set-from-out : tie.Need-array-set-from-out Inv-loop μ-loop
+array-set-from-out c = search needs
 
 add-q : tie.Need-add-q Inv-loop μ-loop
 add-q c = search needs
@@ -48,12 +52,17 @@ loop-again c =
     let at = c .before .before in
     let q = at .loop .q in
     let n = at .before .args .n in
+    let k = at .before .args .k in
     let starts = at .before .args .starts in
-    let store = filled-store _ q (at .loop .out) (at .loop .inv) (c .before .loop-test .taken) (pos 0) in
+    let store = filled-store _ q (at .loop .out) (at .loop .inv) (c .before .loop-test .taken) in
     let skip = filled-skip _ q (at .loop .out) (at .loop .inv) (c .before .loop-test .taken) in
-    ⊎-elim (λ w. rw (w .3) (store (sym (rw (sym (w .1 .ensures) ∙ w .2 .taken) at (starts-at n starts q (w .0 .taken))))))
-    (⊎-elim (λ w. rw (w .3) (skip (rw (sym (w .1 .ensures) ∙ w .2 .left) at (starts-at n starts q (w .0 .taken)))))
-    (λ w. rw (w .1) (skip (starts-beyond n starts q (w .0 .left)))))
+    let begun = starts-at k n starts q in
+    ⊎-elim
+    (λ w. rw (w .4, from-bits (w .3 .result) (w .3 .ok))
+    (store (w .3 .result)
+    (ap oneHigher (w .3 .ensures) ∙ plus-signed k 0 (pos 0) ∙ sym (rw (sym (w .1 .ensures) ∙ w .2 .taken) at (begun (w .0 .taken))))))
+    (⊎-elim (λ w. rw (w .3) (skip (rw (sym (w .1 .ensures) ∙ w .2 .left) at (begun (w .0 .taken)))))
+    (λ w. rw (w .1) (skip (starts-beyond k n starts q (w .0 .left)))))
     (c .if1 .came)
 
 returns : tie.Need-returns Inv-loop μ-loop
@@ -68,8 +77,9 @@ start-spec =
     Inv-loop
     μ-loop
     loop-holds
-    leads-requires
-    array-set-of-out
+    has-requires
+    plus-requires
+    array-set-from-out
     add-q
     loop-less
     loop-again

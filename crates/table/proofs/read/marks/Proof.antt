@@ -1,6 +1,6 @@
 -- `marks` writes the mark of each state of a side at its number. The loop's invariant: q is the number of states among the first i
 -- records, and the marks are theirs. The measure is the number of records that are left. Assumes nothing.
-use mathlib.Core.Path.{_≡_, sym, ap, _∙_}
+use mathlib.Core.Path.{_≡_, sym, ap, _∙_, ap₂}
 use mathlib.Core.List.{List}
 use mathlib.Core.Logic.{⊎-elim}
 use Prim.Native.Nat.{ℕ, _≤_, _+_, _-_, _/_, _%_}
@@ -9,7 +9,7 @@ use borrow.Author.Needs.{needs}
 use denote.Ref.{now}
 use lib.ListN.{length, take, set}
 use Rattle.meaning.specs.Records.{Record, recordsOf, ofKind}
-use Rattle.meaning.specs.Table.{markOf}
+use Rattle.meaning.specs.Table.{markOf, markIn}
 use Rattle.table.specs.Packed.{recordIn, marks as marks′}
 use Rattle.table.proofs.Records.{next-record, all-records}
 use Rattle.table.proofs.OneMore.{ofKind-few, ofKind-other, states-this, marks-this, marks-full, marks-other}
@@ -26,11 +26,14 @@ abbrev μ-loop : tie.MeasureT-loop
 μ-loop bytes kind marks₀ q₀ i₀ marks q i = length bytes / 4 - i
 
 loop-holds : tie.Need-loop-holds Inv-loop μ-loop
-unfolding marks′ markOf ofKind
+unfolding marks′ markOf markIn ofKind
 loop-holds c = search needs
 
 at-requires : tie.Need-at-requires Inv-loop μ-loop
 at-requires c κs = search needs
+
+mark-requires : tie.Need-mark-requires Inv-loop μ-loop
+mark-requires c κs = search needs
 
 array-write-marks : tie.Need-array-write-marks Inv-loop μ-loop
 array-write-marks c = search needs
@@ -63,7 +66,7 @@ loop-again c =
       search needs,
       w .3 ∙ ap (λ (n : ℕ). n + 1) (head .loop .inv .1) ∙ sym (states-this kind rs r (w .0 .taken)),
       w .2 ∙ ⊎-elim
-          (λ v. v .2 ∙ ap (λ (l : List ℕ). set l q (r .letter % 2)) (head .loop .inv .2) ∙ marks-this kind rs r q (w .0 .taken) (head .loop .inv .1) (v .0 .taken))
+          (λ v. v .2 ∙ ap₂ (λ (l : List ℕ) (m : ℕ). set l q m) (head .loop .inv .2) (v .1 .ensures) ∙ marks-this kind rs r q (w .0 .taken) (head .loop .inv .1) (v .0 .taken))
           (λ v. v .1 ∙ head .loop .inv .2 ∙ marks-full kind rs r (w .0 .taken) (omega (arith, v .0 .left, head .loop .inv .1)))
           (w .1 .came),
     ))
@@ -88,6 +91,7 @@ marks-spec =
     μ-loop
     loop-holds
     at-requires
+    mark-requires
     array-write-marks
     add-q
     add-i

@@ -11,7 +11,7 @@ use denote.Ref.{now}
 use lib.Dec.{eqb}
 use lib.ListN.{length, take}
 use Rattle.meaning.specs.Records.{Record, recordsOf, ofKind, controller}
-use Rattle.meaning.specs.Table.{startOf, bit}
+use Rattle.meaning.specs.Table.{startsOf, bit, startIn}
 use Rattle.masks.specs.Mask.{mask}
 use Rattle.table.specs.Packed.{recordIn}
 use Rattle.table.proofs.Records.{next-record, all-records}
@@ -23,17 +23,20 @@ abbrev Inv-loop : tie.InvT-loop
 Inv-loop bytes set₀ q₀ i₀ set q i =
     (i ≤ length bytes / 4)
     × (q ≡ length (ofKind controller (take i (recordsOf bytes))))
-    × (set ≡ mask 8 (startOf (take i (recordsOf bytes))))
+    × (set ≡ mask 8 (startsOf (take i (recordsOf bytes))))
 
 abbrev μ-loop : tie.MeasureT-loop
 μ-loop bytes set₀ q₀ i₀ set q i = length bytes / 4 - i
 
 loop-holds : tie.Need-loop-holds Inv-loop μ-loop
-unfolding mask startOf ofKind
+unfolding mask startsOf startIn ofKind
 loop-holds c = search needs
 
 at-requires : tie.Need-at-requires Inv-loop μ-loop
 at-requires c κs = search needs
+
+is-start-requires : tie.Need-is-start-requires Inv-loop μ-loop
+is-start-requires c κs = search needs
 
 with-state-requires : tie.Need-with-state-requires Inv-loop μ-loop
 with-state-requires c κs = search needs
@@ -66,8 +69,8 @@ loop-again c =
       w .3 ∙ ⊎-elim
           (λ v. v .2 ∙ v .1 .ensures
           ∙ ap₂ (λ (m n : ℕ). mask 8 (λ k. bit m k || eqb k n)) (head .loop .inv .2) (head .loop .inv .1)
-          ∙ starts-this rs r (w .0 .taken) (v .0 .taken))
-          (λ v. v .1 ∙ head .loop .inv .2 ∙ starts-none rs r (w .0 .taken) (v .0 .left))
+          ∙ starts-this rs r (w .0 .taken) (sym (w .1 .ensures) ∙ v .0 .taken))
+          (λ v. v .1 ∙ head .loop .inv .2 ∙ starts-none rs r (w .0 .taken) (sym (w .1 .ensures) ∙ v .0 .left))
           (w .2 .came),
     ))
     (λ w. (
@@ -80,7 +83,7 @@ loop-again c =
 returns : tie.Need-returns Inv-loop μ-loop
 returns c =
     c .before .loop .inv .2
-    ∙ ap (λ (l : List Record). mask 8 (startOf l)) (all-records (now (c .before .before .before .args .bytes)) (c .before .loop .i) (c .loop-test .left))
+    ∙ ap (λ (l : List Record). mask 8 (startsOf l)) (all-records (now (c .before .before .before .args .bytes)) (c .before .loop .i) (c .loop-test .left))
 
 pub starts-spec : {M : Type 1} → statement M
 starts-spec =
@@ -90,6 +93,7 @@ starts-spec =
     μ-loop
     loop-holds
     at-requires
+    is-start-requires
     with-state-requires
     add-q
     add-i
