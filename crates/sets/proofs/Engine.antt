@@ -13,6 +13,7 @@ use lib.ListN.{length, length-map}
 use Rattle.meaning.specs.Table.{Half, Table, onOutput, onInput}
 use Rattle.meaning.specs.Counting.{Position, back}
 use Rattle.meaning.specs.Rounds.{Set, allSafe, setA, setB, setW, rounds, winning, maximalMembers, full, Crowded, Down, Within, FirstSet}
+use Rattle.meaning.specs.Rounds.{in-A, in-B, in-W}
 use Rattle.meaning.specs.Written.{positionBytes, winners}
 use Rattle.meaning.proofs.Tests.{refuted, below-last}
 use Rattle.meaning.proofs.Steps.{back-length}
@@ -20,7 +21,7 @@ use Rattle.meaning.proofs.Positions.{allSafe-length}
 use Rattle.meaning.proofs.Rounds.{setA-safe, setB-safe}
 use Rattle.meaning.proofs.Rounds.{setW-down, setW-safe, rounds-bound, rounds-settled, rounds-smallest}
 use Rattle.meaning.proofs.Maximal.{member-in, members-determine, members-same}
-use Rattle.meaning.proofs.Full.{in-W, in-A, in-B, full-exactly}
+use Rattle.meaning.proofs.Full.{full-exactly}
 use Rattle.counts.proofs.Wide.{wide-at, wide-same, back-reads}
 use Rattle.sets.specs.Tops.{tops, meets}
 use Rattle.sets.specs.Engine.{Small, StandsFor, backWide, cutBy, widenBy, brim, listA, listB, nextList}
