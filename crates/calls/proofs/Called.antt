@@ -15,7 +15,6 @@ use Rattle.meaning.specs.declared.Refusal.the-variants.{Bound, Room, Length, Re
 use Rattle.meaning.specs.declared.Refusal.the-variants.{Letters, Size}
 use Rattle.meaning.specs.Answers.{numberOf, codeOf, refused, Solved, unsolved, solve, join, parts}
 use Rattle.meaning.specs.Checks.{bound, room, solveChecks, partsChecks}
-use Rattle.game.specs.Finished.{leaves}
 use Rattle.calls.specs.Called.{reported, called, unanswered, calledSolved, joins, calledJoin}
 
 -- the codes end with 14
@@ -64,14 +63,14 @@ parts-roomless one two K win con = roomless K win con (parts one two K 0 win con
 -- a call that solves, by what it makes of the room that it is given
 module _ (K N : ℕ) (win con ans : List ℕ) (solving : ℕ → Solved) (none : Roomless K win con (solving 0)) where
   pub called-solving : (given r : ℕ) (a : Answer) (winAfter conAfter ansAfter : List ℕ) → given ≡ cond (ltb (length ans) 24) 0 N
-      → leaves a winAfter conAfter ≡ solving given → r ≡ codeOf (a .verdict) → ansAfter ≡ reported a ans
+      → solved a winAfter conAfter ≡ solving given → r ≡ codeOf (a .verdict) → ansAfter ≡ reported a ans
       → called r winAfter conAfter ansAfter ≡ calledSolved K win con ans (solving N)
   unfolding reported calledSolved
   called-solving given r a winAfter conAfter ansAfter lent left code laid = go (ltb (length ans) 24) refl
     where
       go : (b : Bool) → ltb (length ans) 24 ≡ b → called r winAfter conAfter ansAfter ≡ calledSolved K win con ans (solving N)
       go true e =
-          let out : leaves a winAfter conAfter ≡ solving 0 = left ∙ ap solving (rw e at lent) in
+          let out : solved a winAfter conAfter ≡ solving 0 = left ∙ ap solving (rw e at lent) in
           rw (
             e,
             laid,
@@ -81,7 +80,7 @@ module _ (K N : ℕ) (win con ans : List ℕ) (solving : ℕ → Solved) (none :
             ap (λ (s : Solved). s .controllerAfter) out ∙ none .controller-stays,
           )
       go false e =
-          let out : leaves a winAfter conAfter ≡ solving N = left ∙ ap solving (rw e at lent) in
+          let out : solved a winAfter conAfter ≡ solving N = left ∙ ap solving (rw e at lent) in
           rw (e, ← out, laid, e, code)
 
 module _ (one two out ans : List ℕ) where

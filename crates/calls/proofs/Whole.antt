@@ -29,7 +29,7 @@ use Rattle.meaning.proofs.Buffers.{winners-number}
 use Rattle.meaning.proofs.JoinGood.{joined-length, joined-sound}
 use Rattle.table.proofs.Records.{records-count}
 use Rattle.game.proofs.Settled.{rounds-few}
-use Rattle.game.proofs.Stage.{room-within}
+use Rattle.game.proofs.InOrder.{room-within}
 use Rattle.calls.specs.Called.{fields, fourBytes, answerBytes, calledSolved, calledSolve, calledParts, calledJoin}
 use Rattle.calls.proofs.Laid.{four-length}
 use Rattle.calls.proofs.Called.{code-most}

@@ -9,10 +9,10 @@ use lib.Dec.{eqb, leb}
 use lib.ListN.{length, take, drop, length-append}
 use Rattle.meaning.specs.Lists.{tab, written}
 use Rattle.meaning.specs.Table.{Table}
-use Rattle.meaning.specs.Counting.{Position}
-use Rattle.meaning.specs.Written.{Row, rowBytes, rowsOfState}
+use Rattle.meaning.specs.Counting.{Position, covered}
+use Rattle.meaning.specs.Written.{Row, rowBytes, rowsOfState, rowsFrom}
 use Rattle.meaning.proofs.Steps.{over-edge}
-use Rattle.game.specs.Finished.{under, stateAt, rowsFrom}
+use Rattle.game.specs.Finished.{stateAt}
 use Rattle.game.proofs.Written.{tab-more, written-length, written-part}
 use Rattle.game.proofs.Rows.{flatMap-append, flatMap-more, rowOn, rows-on, rows-length}
 use Rattle.game.proofs.Orders.{order-tab}
@@ -27,10 +27,10 @@ state-inside start number b s l =
 module _ (K : ℕ) (t : Table) (ws : List Position) (start : ℕ) where
   -- the bytes of one state's rows, and of the first b in their order
   abbrev pub block : ℕ → List ℕ
-  block s = rowBytes (rowsOfState K t (under ws) ws s)
+  block s = rowBytes (rowsOfState K t (covered ws) ws s)
 
   abbrev pub blocks : ℕ → List ℕ
-  blocks b = rowBytes (flatMap (rowsOfState K t (under ws) ws) (tab b (stateAt start)))
+  blocks b = rowBytes (flatMap (rowsOfState K t (covered ws) ws) (tab b (stateAt start)))
 
   block-length : (s : ℕ) → length (block s) ≡ t .inputs * 4
   block-length s = ap (λ (rows : List Row). length (rowBytes rows)) (rows-on K t ws s) ∙ rows-length (rowOn K t ws s) (t .inputs)
@@ -38,13 +38,13 @@ module _ (K : ℕ) (t : Table) (ws : List Position) (start : ℕ) where
   blocks-more : (b : ℕ) → blocks (b + 1) ≡ blocks b ++ block (stateAt start b)
   unfolding rowBytes
   blocks-more b =
-      ap (λ (states : List ℕ). rowBytes (flatMap (rowsOfState K t (under ws) ws) states)) (tab-more b (stateAt start))
-      ∙ ap rowBytes (flatMap-more (rowsOfState K t (under ws) ws) (tab b (stateAt start)) (stateAt start b))
-      ∙ flatMap-append (λ (r : Row). r .state ∷ r .output ∷ r .input ∷ r .next ∷ []) _ (rowsOfState K t (under ws) ws (stateAt start b))
+      ap (λ (states : List ℕ). rowBytes (flatMap (rowsOfState K t (covered ws) ws) states)) (tab-more b (stateAt start))
+      ∙ ap rowBytes (flatMap-more (rowsOfState K t (covered ws) ws) (tab b (stateAt start)) (stateAt start b))
+      ∙ flatMap-append (λ (r : Row). r .state ∷ r .output ∷ r .input ∷ r .next ∷ []) _ (rowsOfState K t (covered ws) ws (stateAt start b))
 
-  pub blocks-whole : start < length ws → blocks (length ws) ≡ rowBytes (rowsFrom K t ws start)
+  pub blocks-whole : start < length ws → blocks (length ws) ≡ rowBytes (rowsFrom K t (covered ws) ws start)
   unfolding rowsFrom
-  blocks-whole h = ap (λ (states : List ℕ). rowBytes (flatMap (rowsOfState K t (under ws) ws) states)) (sym (order-tab start (length ws) h))
+  blocks-whole h = ap (λ (states : List ℕ). rowBytes (flatMap (rowsOfState K t (covered ws) ws) states)) (sym (order-tab start (length ws) h))
 
   -- the buffer after b blocks, which end at a place
   pub record Blocks (old : List ℕ) (b at : ℕ) (controller : List ℕ) : Type 0 where

@@ -11,6 +11,6 @@ pub mod Rows
 pub mod Blocks
 pub mod Finished
 pub mod Listed
-pub mod Stage
+pub mod InOrder
 pub mod Solved
 pub mod Demands

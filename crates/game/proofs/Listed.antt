@@ -13,23 +13,23 @@ use borrow.Author.Tests.{ltb-false}
 use Rattle.meaning.specs.declared.Verdict.the-variants.{Realizable, Unrealizable}
 use Rattle.meaning.specs.declared.Refusal.the-variants.{Nothing}
 use Rattle.meaning.specs.Lists.{any, place, written}
-use Rattle.meaning.specs.Table.{Table, onOutput, onInput}
-use Rattle.meaning.specs.Counting.{Position, count, forward, below}
+use Rattle.meaning.specs.Table.{Table, onOutput, onInput, Good}
+use Rattle.meaning.specs.Counting.{Position, count, forward, below, covered}
 use Rattle.meaning.specs.Rounds.{Set, winning, rounds, full, FirstSet}
 use Rattle.meaning.specs.Written.{Row, positionBytes, winners, winnersBytes, covering, afterRound, outputOf, startState, rowBytes, rowsOfState, controllerRows, stateOrder}
-use Rattle.meaning.specs.Answers.{Solved, unsolved, solvedFrom}
+use Rattle.meaning.specs.Written.{leadsBack, rowsFrom}
+use Rattle.meaning.specs.Answers.{Solved, unsolved, solvedFrom, answered}
 use Rattle.meaning.specs.Checks.{check, judge, stageChecks, room}
 use Rattle.meaning.proofs.Tests.{neither-left, neither-right, same-test, each-same, first-same}
 use Rattle.meaning.proofs.Lists.{tab-same, any-at, any-of, member-at}
 use Rattle.meaning.proofs.Steps.{forward-length}
 use Rattle.meaning.proofs.Rounds.{winning-down, winning-safe}
 use Rattle.meaning.proofs.Maximal.{member-in, climb}
-use Rattle.meaning.proofs.Good.{Good}
 use Rattle.meaning.proofs.Rows.{output-letter, winner-wins}
 use Rattle.counts.proofs.Wide.{wide-count, wide-of-wide, below-counts, forward-counts}
 use Rattle.sets.specs.Engine.{Small}
 use Rattle.sets.proofs.Engine.{members-sized}
-use Rattle.game.specs.Finished.{under, rowsFrom, answered, finished, Playable, Roomy}
+use Rattle.game.specs.Finished.{finished, Playable, Roomy}
 use Rattle.game.proofs.Bytes.{getD-inside}
 
 -- a search over members that were changed to ones alike
@@ -78,7 +78,7 @@ module _ (K : ℕ) (t : Table) (X : Set) (small : Small t) (first : FirstSet K t
   listed-covering F = place-alike (below F) positionBytes (winners K t X) (below-listed F)
 
   -- the list covers exactly the winning set
-  pub listed-won : (F : Position) → length F ≡ t .controllers → under listed F ≡ winning K t X F
+  pub listed-won : (F : Position) → length F ≡ t .controllers → covered listed F ≡ winning K t X F
   unfolding winners
   listed-won F e =
       any-alike (below F) positionBytes (winners K t X) (below-listed F)
@@ -105,35 +105,35 @@ module _ (K : ℕ) (t : Table) (X : Set) (small : Small t) (first : FirstSet K t
           (List·getD-eq-default listed [] (omega (arith, listed-length)) ∙ sym (List·getD-eq-default (winners K t X) [] (omega arith)))
 
   -- so outputs, next states and rows are the same
-  pub listed-output : (F G : Position) → ((q : ℕ) → count F q ≡ count G q) → outputOf K t (under listed) F ≡ outputOf K t (winning K t X) G
-  unfolding outputOf
+  pub listed-output : (F G : Position) → ((q : ℕ) → count F q ≡ count G q) → outputOf K t (covered listed) F ≡ outputOf K t (winning K t X) G
+  unfolding outputOf leadsBack
   listed-output F G e =
       first-same (t .outputs) _ _
       (λ o _. each-same (t .inputs) _ _
-      (λ i _. ap (under listed) (round-alike K t o i F G e) ∙ listed-won (afterRound K t o i G) (round-length K t o i G)))
+      (λ i _. ap (covered listed) (round-alike K t o i F G e) ∙ listed-won (afterRound K t o i G) (round-length K t o i G)))
 
-  listed-rows : (s : ℕ) → rowsOfState K t (under listed) listed s ≡ rowsOfState K t (winning K t X) (winners K t X) s
+  listed-rows : (s : ℕ) → rowsOfState K t (covered listed) listed s ≡ rowsOfState K t (winning K t X) (winners K t X) s
   unfolding rowsOfState
   listed-rows s =
       let F = getD listed s [] in
       let G = getD (winners K t X) s [] in
-      let o : outputOf K t (under listed) F ≡ outputOf K t (winning K t X) G = listed-output F G (winner-alike s) in
-      let after : (i : ℕ) → afterRound K t (outputOf K t (under listed) F) i F ≡ afterRound K t (outputOf K t (winning K t X) G) i G =
+      let o : outputOf K t (covered listed) F ≡ outputOf K t (winning K t X) G = listed-output F G (winner-alike s) in
+      let after : (i : ℕ) → afterRound K t (outputOf K t (covered listed) F) i F ≡ afterRound K t (outputOf K t (winning K t X) G) i G =
       λ i. ap (λ (l : ℕ). afterRound K t l i F) o ∙ round-alike K t (outputOf K t (winning K t X) G) i F G (winner-alike s) in
       tab-same (t .inputs) _ _
       (λ i _ j. record { state = s; output = o j; input = i; next = (listed-covering _ ∙ ap (covering (winners K t X)) (after i)) j })
 
-  pub listed-start : startState t listed ≡ startState t (winners K t X)
+  pub listed-start : startState K t listed ≡ startState K t (winners K t X)
   unfolding startState
   listed-start = listed-covering _
 
-  pub listed-controller : rowsFrom K t listed (startState t listed) ≡ controllerRows K t X
+  pub listed-controller : rowsFrom K t (covered listed) listed (startState K t listed) ≡ controllerRows K t X
   unfolding rowsFrom controllerRows
   listed-controller =
       ap₂ (λ (f : ℕ → List Row) (states : List ℕ). flatMap f states) (fun-ext listed-rows) (ap₂ stateOrder listed-start listed-length)
 
   module _ (win con : List ℕ) where
-    pub listed-answered : answered K t listed (rounds K t X) win con ≡ solvedFrom K t X win con
+    pub listed-answered : answered K t (covered listed) listed (rounds K t X) win con ≡ solvedFrom K t X win con
     unfolding answered solvedFrom
     listed-answered = λ i. record {
       answer = record {

@@ -8,12 +8,12 @@ use native.Mathlib.Omega.{arith}
 use lib.ListN.{length, getD, take, drop}
 use Rattle.meaning.specs.Lists.{tab, any, place, written}
 use Rattle.meaning.specs.Table.{Table}
-use Rattle.meaning.specs.Counting.{Position, below}
+use Rattle.meaning.specs.Counting.{Position, below, covered}
 use Rattle.meaning.specs.Written.{Row, covering, afterRound, outputOf, rowBytes, rowsOfState}
 use Rattle.meaning.proofs.Tests.{each-at, first-holds}
 use Rattle.meaning.proofs.Lists.{tab-length, any-at, at-member, place-found}
 use Rattle.meaning.proofs.Buffers.{rows-bytes}
-use Rattle.game.specs.Finished.{under, Playable}
+use Rattle.game.specs.Finished.{Playable}
 use Rattle.game.proofs.Written.{tab-more, written-part}
 
 pub flatMap-append : {A B : Type 0} (f : A → List B) (xs ys : List A) → flatMap f (xs ++ ys) ≡ flatMap f xs ++ flatMap f ys
@@ -53,7 +53,7 @@ place-inside f xs p =
 
 -- a state's output, its next state for an input, and the row that says so
 abbrev pub outputOn : ℕ → Table → List Position → ℕ → ℕ
-outputOn K t ws s = outputOf K t (under ws) (getD ws s [])
+outputOn K t ws s = outputOf K t (covered ws) (getD ws s [])
 
 abbrev pub nextOn : ℕ → Table → List Position → ℕ → ℕ → ℕ
 nextOn K t ws s i = covering ws (afterRound K t (outputOn K t ws s) i (getD ws s []))
@@ -61,7 +61,7 @@ nextOn K t ws s i = covering ws (afterRound K t (outputOn K t ws s) i (getD ws s
 abbrev pub rowOn : ℕ → Table → List Position → ℕ → ℕ → Row
 rowOn K t ws s i = record { state = s; output = outputOn K t ws s; input = i; next = nextOn K t ws s i }
 
-pub rows-on : (K : ℕ) (t : Table) (ws : List Position) (s : ℕ) → rowsOfState K t (under ws) ws s ≡ tab (t .inputs) (rowOn K t ws s)
+pub rows-on : (K : ℕ) (t : Table) (ws : List Position) (s : ℕ) → rowsOfState K t (covered ws) ws s ≡ tab (t .inputs) (rowOn K t ws s)
 unfolding rowsOfState
 rows-on K t ws s = refl
 
@@ -69,4 +69,4 @@ pub next-inside : (K : ℕ) (t : Table) (ws : List Position) → Playable K t ws
 unfolding outputOf covering
 next-inside K t ws playable s i h l =
     place-inside (below (afterRound K t (outputOn K t ws s) i (getD ws s []))) ws
-    (each-at (t .inputs) (λ j. under ws (afterRound K t (outputOn K t ws s) j (getD ws s []))) (first-holds (t .outputs) _ (playable .leads s h)) i l)
+    (each-at (t .inputs) (λ j. covered ws (afterRound K t (outputOn K t ws s) j (getD ws s []))) (first-holds (t .outputs) _ (playable .leads s h)) i l)

@@ -7,11 +7,11 @@ use Prim.Native.Nat.{ℕ, _≤_}
 use lib.ListN.{length}
 use Rattle.meaning.specs.Lists.{any, place}
 use Rattle.meaning.specs.Table.{Table, onOutput, onInput}
-use Rattle.meaning.specs.Counting.{Position, forward, below}
+use Rattle.meaning.specs.Counting.{Position, forward, below, covered}
 use Rattle.meaning.specs.Written.{positionBytes, covering, afterRound}
 use Rattle.meaning.proofs.Steps.{forward-length}
 use Rattle.counts.proofs.Wide.{wide-count, below-counts, forward-wide}
-use Rattle.game.specs.Finished.{under, Bounded}
+use Rattle.game.specs.Finished.{Bounded}
 
 -- a position in eight counts is below what the position is below
 pub below-same : (F : Position) → length F ≤ 8 → below (positionBytes F) ≡ below F
@@ -33,8 +33,8 @@ module _ (K : ℕ) (t : Table) (bounded : Bounded K t) (o i : ℕ) (F : Position
     below-stepped =
         ap below stands ∙ below-same (afterRound K t o i F) (rw (forward-length K (onInput t i) (forward K (onOutput t o) F)) (bounded .controllers))
 
-    pub under-stepped : under ws after ≡ under ws (afterRound K t o i F)
-    under-stepped = ap (λ (f : Position → Bool). any f ws) below-stepped
+    pub covered-stepped : covered ws after ≡ covered ws (afterRound K t o i F)
+    covered-stepped = ap (λ (f : Position → Bool). any f ws) below-stepped
 
     pub covering-stepped : covering ws after ≡ covering ws (afterRound K t o i F)
     unfolding covering

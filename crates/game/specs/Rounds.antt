@@ -8,7 +8,7 @@ use lib.IntN.{ℤ}
 use lib.ListN.{length}
 use Rattle.meaning.specs.Lists.{any, largest}
 use Rattle.meaning.specs.Table.{Table}
-use Rattle.meaning.specs.Counting.{Position, below}
+use Rattle.meaning.specs.Counting.{Position, below, covered}
 use Rattle.meaning.specs.Rounds.{Set, rounds, full, FirstSet}
 use Rattle.meaning.specs.Written.{positionBytes, winners}
 use Rattle.sets.specs.Engine.{listA, listB, Small, StandsFor}
@@ -21,7 +21,7 @@ use Rattle.game.specs.declared.rounds.Settled.the-variants.{After, Full 
 -- "Each set contains everything below its members, so it is fixed by its maximal members": the positions of n states that a list covers,
 -- whose members have eight counts
 unfoldable pub coveredBy : ℕ → List Position → Set
-coveredBy n l F = eqb (length F) n && any (below (positionBytes F)) l
+coveredBy n l F = eqb (length F) n && covered l (positionBytes F)
 
 -- what the rounds ask of a first list: it has the maximal members of a first set, and the table has an output and at most eight states a side
 pub record FirstList (K : ℕ) (t : Table) (l : List Position) : Type 0 where

@@ -9,11 +9,11 @@ ghost use mathlib.Core.Path.{_≡_};
 ghost use mathlib.Core.Bool.{true};
 ghost use Prim.Native.Nat.{_≤_};
 ghost use lib.ListN.{length};
-ghost use Rattle.meaning.specs.Answers.{refused as refusedBy};
+ghost use Rattle.meaning.specs.Answers.{refused as refusedBy, solved};
 ghost use Rattle.meaning.specs.Checks.{check};
 ghost use Rattle.table.specs.Packed.{tableIn};
 ghost use Rattle.sets.specs.Members.{members};
-ghost use Rattle.game.specs.Finished.{finished, leaves, Playable, Roomy};
+ghost use Rattle.game.specs.Finished.{finished, Playable, Roomy};
 
 // A refusal's answer: rounds, winners and start are 0.
 pub fn refused(refusal: Refusal, place: usize, which: usize) -> Answer
@@ -39,13 +39,13 @@ pub fn finish(
     controller: &mut [u8],
 ) -> Answer
     requires { ⌜ (n ≤ length (now list)) × Playable k (tableIn table) (members (now list) n) × Roomy (members (now list) n) (now winners) (now controller) ⌝ }
-    ensures { λ r. ⌜ leaves r (now (winners .exit)) (now (controller .exit)) ≡ finished k (tableIn table) (members (now (list .entry)) n) rounds (now (winners .entry)) (now (controller .entry)) ⌝ }
+    ensures { λ r. ⌜ solved r (now (winners .exit)) (now (controller .exit)) ≡ finished k (tableIn table) (members (now (list .entry)) n) rounds (now (winners .entry)) (now (controller .entry)) ⌝ }
 {
     if n == 0 {
         return refused(Refusal::Nothing, 0, 0);
     }
     write::write_winners(list, n, winners);
-    let start = write::covering(list, n, &position::start(table.starts, table.controllers));
+    let start = write::covering(list, n, &position::start(table.starts, table.controllers, k));
     if n <= start {
         return Answer {
             verdict: Verdict::Unrealizable,

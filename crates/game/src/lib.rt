@@ -2,19 +2,19 @@
 pub mod finish;
 pub mod half;
 pub mod rounds;
+pub mod stage;
 pub mod write;
 
+use counts::position;
 use meaning::Answer;
 use meaning::Refusal;
-use rounds::Settled;
 use table::Checked;
 use table::checks;
 ghost use mathlib.Core.Path.{_≡_};
 ghost use mathlib.Core.Bool.{_||_};
 ghost use Prim.Native.Nat.{_*_};
 ghost use lib.Dec.{eqb, ltb};
-ghost use Rattle.meaning.specs.Answers.{solve as solveOf};
-ghost use Rattle.game.specs.Finished.{leaves};
+ghost use Rattle.meaning.specs.Answers.{solve as solveOf, solved};
 
 // Solves a table for the patience count k, with room for so many positions: the winners, the
 // controller's rows and the answer.
@@ -25,7 +25,7 @@ pub fn solve(
     winners: &mut [u8],
     controller: &mut [u8],
 ) -> Answer
-    ensures { λ r. ⌜ leaves r (now (winners .exit)) (now (controller .exit)) ≡ solveOf (now (table .entry)) k room (now (winners .entry)) (now (controller .entry)) ⌝ }
+    ensures { λ r. ⌜ solved r (now (winners .exit)) (now (controller .exit)) ≡ solveOf (now (table .entry)) k room (now (winners .entry)) (now (controller .entry)) ⌝ }
 {
     if 7 < k {
         return finish::refused(Refusal::Bound, 0, 0);
@@ -39,12 +39,8 @@ pub fn solve(
         return finish::refused(refusal, place, 0);
     }
     let table = reading.table;
-    let mut list = [[-1i8; 8]; 256];
-    let settled = rounds::settle_all(table, k, room, &mut list);
-    let Settled::After(rounds, n) = settled else {
-        return finish::refused(Refusal::Full, 0, 0);
-    };
-    finish::finish(table, k, &list, n, rounds, winners, controller)
+    let first = [position::brim(k, table.controllers); 1];
+    stage::stage(table, k, room, &first, 1, winners, controller)
 }
 
 // 3: a room not 1 to 256, or a winners or controller buffer of too few bytes for it.

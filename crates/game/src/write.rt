@@ -10,10 +10,12 @@ ghost use Prim.Native.Nat.{_*_, _≤_, _<_};
 ghost use lib.ListN.{length};
 ghost use Rattle.meaning.specs.Lists.{written};
 ghost use Rattle.meaning.specs.Written.{positionBytes, winnersBytes, covering as coveringOf, afterRound, outputOf, rowBytes, rowsOfState};
+ghost use Rattle.meaning.specs.Written.{leadsBack, rowsFrom};
+ghost use Rattle.meaning.specs.Counting.{covered};
 ghost use Rattle.counts.specs.Cells.{cells};
 ghost use Rattle.table.specs.Packed.{tableIn};
 ghost use Rattle.sets.specs.Members.{members};
-ghost use Rattle.game.specs.Finished.{under, leadsBack, stateAt, rowsFrom, Bounded, Playable};
+ghost use Rattle.game.specs.Finished.{stateAt, Bounded, Playable};
 
 // The winners: 8 bytes a position, each holding a count one higher.
 pub fn write_winners(list: &[[i8; 8]], n: usize, winners: &mut [u8])
@@ -63,7 +65,7 @@ fn leads_back(
     letter: usize,
 ) -> bool
     requires { ⌜ Bounded k (tableIn table) ⌝ }
-    ensures { λ r. ⌜ r ≡ leadsBack k (tableIn table) (under (members (now (list .entry)) n)) (cells (now (p .entry))) letter ⌝ }
+    ensures { λ r. ⌜ r ≡ leadsBack k (tableIn table) (covered (members (now (list .entry)) n)) (cells (now (p .entry))) letter ⌝ }
 {
     let mut i = 0;
     while i < table.inputs {
@@ -79,7 +81,7 @@ fn leads_back(
 // The smallest letter from which every input leads back, or the number of outputs.
 pub fn output_of(table: Table, k: usize, list: &[[i8; 8]], n: usize, p: &[i8; 8]) -> usize
     requires { ⌜ Bounded k (tableIn table) ⌝ }
-    ensures { λ r. ⌜ r ≡ outputOf k (tableIn table) (under (members (now (list .entry)) n)) (cells (now (p .entry))) ⌝ }
+    ensures { λ r. ⌜ r ≡ outputOf k (tableIn table) (covered (members (now (list .entry)) n)) (cells (now (p .entry))) ⌝ }
 {
     let mut letter = 0;
     while letter < table.outputs {
@@ -112,7 +114,7 @@ fn write_state(
     controller: &mut [u8],
 )
     requires { ⌜ (n ≤ length (now list)) × (state < n) × Playable k (tableIn table) (members (now list) n) × (table .inputs * 4 ≤ length (now controller)) ⌝ }
-    ensures { λ _. ⌜ now (controller .exit) ≡ written (rowBytes (rowsOfState k (tableIn table) (under (members (now (list .entry)) n)) (members (now (list .entry)) n) state)) (now (controller .entry)) ⌝ }
+    ensures { λ _. ⌜ now (controller .exit) ≡ written (rowBytes (rowsOfState k (tableIn table) (covered (members (now (list .entry)) n)) (members (now (list .entry)) n) state)) (now (controller .entry)) ⌝ }
 {
     let p = list[state];
     let output = output_of(table, k, list, n, &p);
@@ -152,7 +154,7 @@ pub fn write_rows(
     controller: &mut [u8],
 )
     requires { ⌜ (n ≤ length (now list)) × (start < n) × Playable k (tableIn table) (members (now list) n) × (32 * n ≤ length (now controller)) ⌝ }
-    ensures { λ _. ⌜ now (controller .exit) ≡ written (rowBytes (rowsFrom k (tableIn table) (members (now (list .entry)) n) start)) (now (controller .entry)) ⌝ }
+    ensures { λ _. ⌜ now (controller .exit) ≡ written (rowBytes (rowsFrom k (tableIn table) (covered (members (now (list .entry)) n)) (members (now (list .entry)) n) start)) (now (controller .entry)) ⌝ }
 {
     let mut at = 0;
     let mut b = 0;

@@ -18,7 +18,6 @@ use Rattle.meaning.proofs.Join.{join-makes, bytes-grouped, pair-swapped, pair-t
 use Rattle.meaning.proofs.Demands as D
 use Rattle.meaning.proofs.Demands.{made, recordAcross}
 use Rattle.meaning.specs.Calls.{Three}
-use Rattle.game.specs.Finished.{leaves}
 use Rattle.game.proofs.Demands.{Call as Solve}
 use Rattle.join.specs.Joined.{joinedBytes}
 use Rattle.join.proofs.join as joinCode
@@ -44,7 +43,7 @@ pub record Parts (one two : List ℕ) (K N : ℕ) : Type 0 where
   pub answer : Answer
   pub winnersAfter : List ℕ
   pub controllerAfter : List ℕ
-  pub promise : leaves answer winnersAfter controllerAfter ≡ parts one two K N winnersBefore controllerBefore
+  pub promise : solved answer winnersAfter controllerAfter ≡ parts one two K N winnersBefore controllerBefore
 
 -- what a caller of the code learns is such a call
 pub join-learnt : (κs : Lfts 3) (args : ArgsD joinCode.signature κs) (result : ResD joinCode.signature κs)

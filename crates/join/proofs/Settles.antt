@@ -20,7 +20,6 @@ use Rattle.meaning.proofs.Maximal.{some-winner}
 use Rattle.game.specs.declared.rounds.Settled.{Settled}
 use Rattle.game.specs.declared.rounds.Settled.the-variants.{After}
 use Rattle.game.specs.Rounds.{Settles}
-use Rattle.game.specs.Finished.{leaves}
 use Rattle.game.proofs.Settled.{after-settled}
 
 module _ {K : ℕ} {t : Table} {X : Set} {N : ℕ} {out : List (List ℤ)} {settled : Settled} (h : Settles K t X N out settled) where
@@ -32,6 +31,6 @@ module _ {K : ℕ} {t : Table} {X : Set} {N : ℕ} {out : List (List ℤ)} {sett
         rw (after-settled h after .0, ne-eqb (length (winners K t X)) 0 (λ e. omega (arith, some-winner K t X first output)))
 
 -- what a refusal leaves
-pub refusal-leaves : (win con : List ℕ) (c : Check) {answer : Answer} → answer ≡ refused c → leaves answer win con ≡ unsolved win con c
+pub refusal-leaves : (win con : List ℕ) (c : Check) {answer : Answer} → answer ≡ refused c → solved answer win con ≡ unsolved win con c
 unfolding unsolved
-refusal-leaves win con c e = ap (λ (r : Answer). leaves r win con) e
+refusal-leaves win con c e = ap (λ (r : Answer). solved r win con) e

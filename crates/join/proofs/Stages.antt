@@ -43,7 +43,7 @@ use Rattle.game.proofs.Listed.{listed, listed-playable}
 use Rattle.join.specs.Beside.{allBeside}
 use Rattle.join.specs.Parts.{FirstPairs, lastStage, inTurn}
 use Rattle.join.proofs.Pairs.{all-wide}
-use Rattle.game.proofs.Stage.{stage-full}
+use Rattle.game.proofs.InOrder.{stage-full}
 use Rattle.join.proofs.Settles.{stage-passed}
 
 module _ (one two : List ℕ) (K N : ℕ) (win con : List ℕ) where

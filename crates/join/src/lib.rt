@@ -12,7 +12,6 @@ use meaning::Refusal;
 use meaning::Verdict;
 ghost use mathlib.Core.Path.{_≡_};
 ghost use Rattle.meaning.specs.Answers.{join as joinOf, parts as partsOf};
-ghost use Rattle.game.specs.Finished.{leaves};
 
 // Writes the joined table, and answers 0 with the number of bytes as its place; or the first of
 // checks 3, 4 to 10 of the first table, 4 to 10 of the second, 13 and 14 that fails.
@@ -46,7 +45,7 @@ pub fn parts(
     winners: &mut [u8],
     controller: &mut [u8],
 ) -> Answer
-    ensures { λ r. ⌜ leaves r (now (winners .exit)) (now (controller .exit)) ≡ partsOf (now (first .entry)) (now (second .entry)) k room (now (winners .entry)) (now (controller .entry)) ⌝ }
+    ensures { λ r. ⌜ solved r (now (winners .exit)) (now (controller .exit)) ≡ partsOf (now (first .entry)) (now (second .entry)) k room (now (winners .entry)) (now (controller .entry)) ⌝ }
 {
     if 7 < k {
         return finish::refused(Refusal::Bound, 0, 0);

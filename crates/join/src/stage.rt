@@ -25,7 +25,6 @@ ghost use Rattle.table.specs.Checked.{checkedOf};
 ghost use Rattle.sets.specs.Members.{members};
 ghost use Rattle.sets.specs.Engine.{Small};
 ghost use Rattle.game.specs.Rounds.{Settles};
-ghost use Rattle.game.specs.Finished.{leaves};
 ghost use Rattle.join.specs.declared.pair.Paired.{Paired};
 ghost use Rattle.join.specs.Joined.{pairedOf};
 ghost use Rattle.join.specs.Parts.{FirstPairs, lastStage, inTurn};
@@ -51,7 +50,7 @@ fn last(
 ) -> Answer
     requires pass { ⌜ (k ≤ 7) × (roomFor room (now winners) (now controller) .failed ≡ false) × (pairedOf (pairChecks (now first) (now second)) ≡ Paired.Passes) ⌝ }
     requires pairs { ⌜ (n ≤ length (now list)) × FirstPairs (now first) (now second) k (members (now list) n) ⌝ }
-    ensures { λ r. ⌜ leaves r (now (winners .exit)) (now (controller .exit)) ≡ lastStage (now (first .entry)) (now (second .entry)) k room (now (winners .entry)) (now (controller .entry)) ⌝ }
+    ensures { λ r. ⌜ solved r (now (winners .exit)) (now (controller .exit)) ≡ lastStage (now (first .entry)) (now (second .entry)) k room (now (winners .entry)) (now (controller .entry)) ⌝ }
 {
     let mut bytes = [0u8; 4160];
     let size = joined::write(first, second, &mut bytes);
@@ -75,7 +74,7 @@ pub fn in_turn(
     controller: &mut [u8],
 ) -> Answer
     requires { ⌜ (k ≤ 7) × (roomFor room (now winners) (now controller) .failed ≡ false) × (pairedOf (pairChecks (now first) (now second)) ≡ Paired.Passes) ⌝ }
-    ensures { λ r. ⌜ leaves r (now (winners .exit)) (now (controller .exit)) ≡ inTurn (now (first .entry)) (now (second .entry)) k room (now (winners .entry)) (now (controller .entry)) ⌝ }
+    ensures { λ r. ⌜ solved r (now (winners .exit)) (now (controller .exit)) ≡ inTurn (now (first .entry)) (now (second .entry)) k room (now (winners .entry)) (now (controller .entry)) ⌝ }
 {
     let mut ones = [[-1i8; 8]; 256];
     let alone_first = alone(first, k, room, &mut ones);

@@ -54,12 +54,12 @@ answered-same K t won ws r r′ win con win′ con′ =
     n = length ws * t .inputs * 4
 
     new : List ℕ
-    new = rowBytes (rowsFrom K t won ws)
+    new = rowBytes (rowsFrom K t won ws s)
 
     rows : (b : Bool) → codeOf (cond b (Realizable s) Unrealizable) ≡ 0 → (b ≡ true → s < length ws)
         → take n (cond b (written new con) con) ≡ take n (cond b (written new con′) con′)
     rows true z covered =
-        let size : length new ≡ n = rows-bytes (rowsFrom K t won ws) ∙ ap (λ (m : ℕ). m * 4) (rows-from-number K t won ws (covered refl)) in
+        let size : length new ≡ n = rows-bytes (rowsFrom K t won ws s) ∙ ap (λ (m : ℕ). m * 4) (rows-from-number K t won ws s (covered refl)) in
         front-written new con n size ∙ sym (front-written new con′ n size)
     rows false z covered = absurd (omega arith)
 

@@ -12,14 +12,6 @@ use Rattle.meaning.specs.Table.{Half, Table, onOutput, onInput}
 use Rattle.meaning.specs.Checks.{total, gap}
 use Rattle.meaning.proofs.Tests.{neither-left, neither-right, each-at, each-of, some-at}
 
-pub record Good (t : Table) : Type 0 where
-  pub some-output : 0 < t .outputs
-  pub some-input : 0 < t .inputs
-  pub output-ends : (o p q : ℕ) → t .outputEdge o p q ≡ true → (o < t .outputs) × (p < t .controllers) × (q < t .worlds)
-  pub input-ends : (i p q : ℕ) → t .inputEdge i p q ≡ true → (i < t .inputs) × (p < t .worlds) × (q < t .controllers)
-  pub output-leads : (o p : ℕ) → o < t .outputs → p < t .controllers → (q : ℕ) × (t .outputEdge o p q ≡ true)
-  pub input-leads : (i p : ℕ) → i < t .inputs → p < t .worlds → (q : ℕ) × (t .inputEdge i p q ≡ true)
-
 -- a letter that leads on from every state leads on from each
 pub total-leads : (h : Half) → total h ≡ true → (p : ℕ) → p < h .sources → (q : ℕ) × (q < h .targets) × (h .edge p q ≡ true)
 unfolding total

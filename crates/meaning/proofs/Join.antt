@@ -10,7 +10,7 @@ use native.Mathlib.Omega.{arith}
 use lib.ListN.{length, take, drop, length-take, length-drop}
 use lib.Seq.{take-append-seam}
 use Rattle.meaning.specs.Records.{Record, recordsOf, bytesOf}
-use Rattle.meaning.specs.Table.{tableOf, stated}
+use Rattle.meaning.specs.Table.{tableOf, stated, Good}
 use Rattle.meaning.specs.Join.{joined, joinedBytes, joinedTable, pairs}
 use Rattle.meaning.specs.Answers.{join, joinedInto}
 use Rattle.meaning.specs.Checks.{roomToJoin, tableChecks, pairChecks, joinChecks, Passes}
@@ -18,7 +18,6 @@ use Rattle.meaning.specs.Counting.{Position}
 use Rattle.meaning.specs.Calls.{wrote}
 use Rattle.meaning.specs.Play.{Wins}
 use Rattle.meaning.specs.Rounds.{setW}
-use Rattle.meaning.proofs.Good.{Good}
 use Rattle.meaning.proofs.Records.{records-back}
 use Rattle.meaning.proofs.Answers.{join-judged}
 use Rattle.meaning.proofs.Sound.{Sound, sound-passes, sound-good, Paired, paired-swapped, passes-first, passes-second, passes-paired}

@@ -9,7 +9,7 @@ use native.Mathlib.Decide.{decLt}
 use native.Mathlib.Omega.{arith}
 use lib.ListN.{length, List·getD-eq-default}
 use Rattle.meaning.specs.Records.{Record, blank, at, controller, ofKind}
-use Rattle.meaning.specs.Table.{Table, startIn, startsOf, tableOf}
+use Rattle.meaning.specs.Table.{Table, startIn, startsOf, tableOf, Good}
 use Rattle.meaning.specs.Counting.{count, plus, startPosition}
 use Rattle.meaning.specs.Rounds.{Set, winning, FirstSet}
 use Rattle.meaning.specs.Written.{startState}
@@ -19,7 +19,6 @@ use Rattle.meaning.proofs.Tests.{clash}
 use Rattle.meaning.proofs.Lists.{tab-length, tab-at}
 use Rattle.meaning.proofs.Steps.{run-within, plus-exact, run-over-edge}
 use Rattle.meaning.proofs.Maximal.{winning-covered, StartCovered}
-use Rattle.meaning.proofs.Good.{Good}
 
 -- start states are states
 pub start-declared : (rs : List Record) (p : ℕ) → tableOf rs .starts p ≡ true → p < tableOf rs .controllers

@@ -10,7 +10,7 @@ use native.Mathlib.Nat.{le-trans}
 use native.Mathlib.Omega.{arith}
 use lib.ListN.{length, getD}
 use Rattle.meaning.specs.Records.{recordsOf}
-use Rattle.meaning.specs.Table.{Table, onOutput, onInput}
+use Rattle.meaning.specs.Table.{Table, onOutput, onInput, Good}
 use Rattle.meaning.specs.Counting.{Position, count, forward, safe, below}
 use Rattle.meaning.specs.Rounds.{Set, winning, FirstSet}
 use Rattle.meaning.specs.Written.{winners, covering, afterRound, outputOf, startState, Row, rowBytes, rowsOfState, controllerRows}
@@ -22,7 +22,6 @@ use Rattle.meaning.proofs.Steps.{safe-at, safe-of, plus-from-safe, forw
 use Rattle.meaning.proofs.Positions.{allSafe-safe}
 use Rattle.meaning.proofs.Rounds.{setA-leads, setB-leads, winning-safe, winning-fixed}
 use Rattle.meaning.proofs.Maximal.{member-in, winning-covered, StartCovered}
-use Rattle.meaning.proofs.Good.{Good}
 use Rattle.meaning.proofs.Winning.{Guards, guards-keep}
 use Rattle.meaning.proofs.Lookups.{order-length, winnerAt, outputAt, nextAt, output-found, next-found, some-output-found}
 
@@ -33,16 +32,16 @@ rows-back [] = refl
 rows-back (r ∷ rows) = ap {B = List Row} (λ rest. r ∷ rest) (rows-back rows)
 
 -- "one for each state and input": their number, where the start state is one of the winners
-pub rows-from-number : (K : ℕ) (t : Table) (won : Set) (ws : List Position) → startState K t ws < length ws
-    → length (rowsFrom K t won ws) ≡ length ws * t .inputs
+pub rows-from-number : (K : ℕ) (t : Table) (won : Set) (ws : List Position) (start : ℕ) → start < length ws
+    → length (rowsFrom K t won ws start) ≡ length ws * t .inputs
 unfolding rowsFrom rowsOfState
-rows-from-number K t won ws h =
-    flatMap-length (rowsOfState K t won ws) (t .inputs) (stateOrder (startState K t ws) (length ws)) (λ s. tab-length (t .inputs) _)
-    ∙ ap (λ n. n * t .inputs) (order-length (startState K t ws) (length ws) h)
+rows-from-number K t won ws start h =
+    flatMap-length (rowsOfState K t won ws) (t .inputs) (stateOrder start (length ws)) (λ s. tab-length (t .inputs) _)
+    ∙ ap (λ n. n * t .inputs) (order-length start (length ws) h)
 
 pub rows-number : (K : ℕ) (t : Table) (X : Set) → StartCovered K t X → length (controllerRows K t X) ≡ length (winners K t X) * t .inputs
 unfolding controllerRows
-rows-number K t X h = rows-from-number K t (winning K t X) (winners K t X) h
+rows-number K t X h = rows-from-number K t (winning K t X) (winners K t X) (startState K t (winners K t X)) h
 
 module _ (K : ℕ) (t : Table) (X : Set) (good : Good t) (first : FirstSet K t X) where
   -- in a winning position some output leads back, so the smallest is a letter, and it leads back

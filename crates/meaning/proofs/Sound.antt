@@ -12,12 +12,12 @@ use lib.Dec.{eqb, leb, ltb, lit<}
 use borrow.Author.Tests.{eqb-true, eqb-false, eq-eqb, ne-eqb, leb-false, ltb-true, ltb-false, le-ltb, not-false}
 use Rattle.meaning.specs.Lists.{each, first}
 use Rattle.meaning.specs.Records.{Record, recordsOf, blank, at, controller, world, output, input, outside, ascends, ofKind}
-use Rattle.meaning.specs.Table.{onOutput, onInput, letters, edgeOf, tableOf}
+use Rattle.meaning.specs.Table.{onOutput, onInput, letters, edgeOf, tableOf, Good}
 use Rattle.meaning.specs.Checks.{bound, wrongLength, descent, misnumbered, noStart, dangling, gap, tableChecks, otherLetters, tooLarge}
 use Rattle.meaning.specs.Checks.{pairChecks, Passes}
 use Rattle.meaning.proofs.Tests.{neither-left, neither-right, clash, refuted, each-at, each-of, first-holds, first-before}
 use Rattle.meaning.proofs.Lists.{member-at, no-place, placeless}
-use Rattle.meaning.proofs.Good.{Good, total-leads, leads-at}
+use Rattle.meaning.proofs.Good.{total-leads, leads-at}
 use Rattle.meaning.proofs.Records.{ofKind-member, ofKind-of, edgeRecord, edge-member, letters-above, Inside, inside-at, inside-of}
 use Rattle.meaning.proofs.Records.{inside-bytes}
 use Rattle.meaning.proofs.Checks.{passes-at, passes-append, passes-left, passes-right}

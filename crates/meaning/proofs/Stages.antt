@@ -11,7 +11,7 @@ use lib.ListN.{length, getD, take}
 use borrow.Author.Tests.{lt-ltb}
 use Rattle.meaning.specs.Lists.{written}
 use Rattle.meaning.specs.Records.{Record, recordsOf, controller}
-use Rattle.meaning.specs.Table.{tableOf, Table}
+use Rattle.meaning.specs.Table.{tableOf, Table, Good}
 use Rattle.meaning.specs.Counting.{Position, below, startPosition}
 use Rattle.meaning.specs.Rounds.{Set, allSafe, winning, SmallestRepeat, FirstSet}
 use Rattle.meaning.specs.Written.{winners, winnersBytes, covering, startState, rowBytes, controllerRows}
@@ -22,7 +22,6 @@ use Rattle.meaning.specs.Play.{Wins, rowsIn, follow, Realizes, Realizabl
 use Rattle.meaning.proofs.Lists.{place-holds, place-found}
 use Rattle.meaning.proofs.Rounds.{allSafe-first, rounds-settled, rounds-smallest, rounds-bound}
 use Rattle.meaning.proofs.Maximal.{winning-covered, StartCovered}
-use Rattle.meaning.proofs.Good.{Good}
 use Rattle.meaning.proofs.Winning.{keeps-down, winning-wins}
 use Rattle.meaning.proofs.Realizes.{start-length, start-covered, keeps-realizes, wins-realizable}
 use Rattle.meaning.proofs.Rows.{rows-number, rows-legal, rows-keep}

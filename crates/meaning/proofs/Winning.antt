@@ -10,7 +10,7 @@ use Prim.Native.Nat.{ℕ, zero, suc, _+_, _-_, _≤_, _<_, min}
 use native.Mathlib.Omega.{arith}
 use lib.ListN.{length}
 use Rattle.meaning.specs.Lists.{first}
-use Rattle.meaning.specs.Table.{Table, onOutput, onInput}
+use Rattle.meaning.specs.Table.{Table, onOutput, onInput, Good}
 use Rattle.meaning.specs.Counting.{Position, count, forward, safe, below}
 use Rattle.meaning.specs.Rounds.{Set, allSafe, setA, setB, setW, rounds, winning, Within, FirstSet}
 use Rattle.meaning.specs.Written.{afterRound}
@@ -21,7 +21,6 @@ use Rattle.meaning.proofs.Steps.{below-at, below-refl, safe-at, safe-wh
 use Rattle.meaning.proofs.Positions.{allSafe-safe, allSafe-of}
 use Rattle.meaning.proofs.Rounds.{setA-of, setA-safe, setA-leads, setB-of, setB-safe, setB-leads, allSafe-first}
 use Rattle.meaning.proofs.Rounds.{winning-fixed}
-use Rattle.meaning.proofs.Good.{Good}
 
 -- what keeps a position's runs to K keeps those of every position below it
 pub keeps-down : (K : ℕ) (t : Table) (F G : Position) (σ : Strategy) → below F G ≡ true → Keeps K t G σ → Keeps K t F σ

@@ -73,7 +73,7 @@ answered K t won ws rounds win con =
     solved
     (record { verdict = cond starts (Realizable s) Unrealizable; place = 0; which = 0; rounds = rounds; winners = length ws })
     (written (winnersBytes ws) win)
-    (cond starts (written (rowBytes (rowsFrom K t won ws)) con) con)
+    (cond starts (written (rowBytes (rowsFrom K t won ws s)) con) con)
 
 -- what the rounds from the first set X come to
 unfoldable pub solvedFrom : ℕ → Table → Set → List ℕ → List ℕ → Solved

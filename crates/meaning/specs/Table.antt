@@ -1,7 +1,8 @@
 -- Document 01, "Table records": the table that records state, its sides, letters, marks and edges.
-use mathlib.Core.Bool.{Bool, _&&_}
+use mathlib.Core.Path.{_≡_}
+use mathlib.Core.Bool.{Bool, true, _&&_}
 use mathlib.Core.List.{List}
-use Prim.Native.Nat.{ℕ, suc, _/_, _%_, _^_}
+use Prim.Native.Nat.{ℕ, suc, _/_, _%_, _^_, _<_}
 use lib.ListN.{length}
 use lib.Dec.{eqb, ltb}
 use Rattle.meaning.specs.Lists.{any, largest}
@@ -72,6 +73,16 @@ tableOf rs =
 -- the table that bytes state
 abbrev pub stated : List ℕ → Table
 stated bytes = tableOf (recordsOf bytes)
+
+-- what checks 4 to 10 grant of a table: there are letters, every edge joins declared states and is of a letter, and every state has an edge
+-- for each letter
+pub record Good (t : Table) : Type 0 where
+  pub some-output : 0 < t .outputs
+  pub some-input : 0 < t .inputs
+  pub output-ends : (o p q : ℕ) → t .outputEdge o p q ≡ true → (o < t .outputs) × (p < t .controllers) × (q < t .worlds)
+  pub input-ends : (i p q : ℕ) → t .inputEdge i p q ≡ true → (i < t .inputs) × (p < t .worlds) × (q < t .controllers)
+  pub output-leads : (o p : ℕ) → o < t .outputs → p < t .controllers → (q : ℕ) × (t .outputEdge o p q ≡ true)
+  pub input-leads : (i p : ℕ) → i < t .inputs → p < t .worlds → (q : ℕ) × (t .inputEdge i p q ≡ true)
 
 -- "The targets of one state on one letter are kept as eight bits": bit q of a mask
 unfoldable pub bit : ℕ → ℕ → Bool

@@ -62,9 +62,9 @@ rowsOfState K t won ws s =
     let o = outputOf K t won F in
     tab (t .inputs) (λ i. record { state = s; output = o; input = i; next = covering ws (afterRound K t o i F) })
 
--- the controller's rows, from a winning set and its list of winners
-unfoldable pub rowsFrom : ℕ → Table → Set → List Position → List Row
-rowsFrom K t won ws = flatMap (rowsOfState K t won ws) (stateOrder (startState K t ws) (length ws))
+-- the controller's rows, from a winning set, its list of winners and the start state
+unfoldable pub rowsFrom : ℕ → Table → Set → List Position → ℕ → List Row
+rowsFrom K t won ws start = flatMap (rowsOfState K t won ws) (stateOrder start (length ws))
 
 unfoldable pub controllerRows : ℕ → Table → Set → List Row
-controllerRows K t X = rowsFrom K t (winning K t X) (winners K t X)
+controllerRows K t X = let ws = winners K t X in rowsFrom K t (winning K t X) ws (startState K t ws)

@@ -16,7 +16,7 @@ use Rattle.table.proofs.Judged.{passes-none-fails, reading-checked, reading-tab
 use Rattle.table.proofs.Good.{good-table}
 use Rattle.game.specs.Rounds.{Settles}
 use Rattle.game.proofs.Settled.{after-settled}
-use Rattle.game.proofs.Stage.{room-within, passes-fit, settled-full, settled-playable, settled-roomy, settled-finished}
+use Rattle.game.proofs.InOrder.{room-within, passes-fit, settled-full, settled-playable, settled-roomy, settled-finished}
 use Rattle.game.proofs.Solved.{solve-bound, solve-room, solve-table, solve-stage}
 use Rattle.game.proofs.solve.Statement.{statement}
 use Rattle.game.proofs.solve.Tie as tie

@@ -7,11 +7,11 @@ use lib.ListN.{length}
 use Rattle.meaning.specs.declared.Answer.{Answer}
 use Rattle.meaning.specs.Counting.{startPosition}
 use Rattle.meaning.specs.Written.{startState}
+use Rattle.meaning.specs.Answers.{solved}
 use Rattle.counts.specs.Cells.{cells, startCounts}
 use Rattle.table.specs.Packed.{tableIn}
 use Rattle.sets.specs.Members.{members}
 use Rattle.sets.proofs.Members.{members-length}
-use Rattle.game.specs.Finished.{leaves}
 use Rattle.game.proofs.Finished.{start-stepped, finished-nothing, finished-without, finished-with}
 use Rattle.game.proofs.finish.finish.Statement.{statement}
 use Rattle.game.proofs.finish.finish.Tie as tie
@@ -23,7 +23,7 @@ number c = members-length (c .args .list .now) (c .args .n) (c .pre .0)
 -- the place found is the start state
 begins : (c : tie.After-covering)
     → (let given = c .before .before .before .before .before .before .before .before .before .before .args in
-    c .covering .result ≡ startState (tableIn (given .table)) (members (given .list .now) (given .n)))
+    c .covering .result ≡ startState (given .k) (tableIn (given .table)) (members (given .list .now) (given .n)))
 unfolding tableIn startPosition startCounts
 begins c =
     let begun = c .before .before in
@@ -39,7 +39,7 @@ returns : tie.Need-returns
 returns c =
     let start = c .before .before .before .before in
     let given = start .args in
-    ap (λ (r : Answer). leaves r (given .winners .now) (given .controller .now)) (c .refused .ensures)
+    ap (λ (r : Answer). solved r (given .winners .now) (given .controller .now)) (c .refused .ensures)
     ∙ finished-nothing (given .k) (tableIn (given .table)) (members (given .list .now) (given .n)) (given .rounds) (given .winners .now) (given .controller .now)
     (given .n) (number start) (c .before .if1 .taken)
 

@@ -7,18 +7,18 @@ use native.Mathlib.Omega.{arith}
 use borrow.Author.Needs.{needs}
 use borrow.Author.Tests.{not-true, not-false}
 use Rattle.meaning.specs.Lists.{each}
-use Rattle.meaning.specs.Written.{afterRound}
+use Rattle.meaning.specs.Written.{afterRound, leadsBack}
+use Rattle.meaning.specs.Counting.{covered}
 use Rattle.counts.specs.Cells.{cells}
 use Rattle.table.specs.Packed.{tableIn}
 use Rattle.table.proofs.Searches.{each-more, each-fails}
 use Rattle.sets.specs.Members.{members}
-use Rattle.game.specs.Finished.{under, leadsBack}
-use Rattle.game.proofs.Stepped.{under-stepped}
+use Rattle.game.proofs.Stepped.{covered-stepped}
 use Rattle.game.proofs.write.leads_back.Statement.{statement}
 use Rattle.game.proofs.write.leads_back.Tie as tie
 
 abbrev Inv-loop : tie.InvT-loop
-Inv-loop table k list n p letter i₀ i = (i ≤ table .inputs) × (each i (λ j. under (members list n) (afterRound k (tableIn table) letter j (cells p))) ≡ true)
+Inv-loop table k list n p letter i₀ i = (i ≤ table .inputs) × (each i (λ j. covered (members list n) (afterRound k (tableIn table) letter j (cells p))) ≡ true)
 
 abbrev μ-loop : tie.MeasureT-loop
 μ-loop table k list n p letter i₀ i = table .inputs - i
@@ -27,13 +27,13 @@ abbrev μ-loop : tie.MeasureT-loop
 led : (c : tie.After-covers Inv-loop μ-loop)
     → (let at = c .before .before .before .before .before in
     let given = at .before .args in
-    c .covers .result ≡ under (members (given .list .now) (given .n)) (afterRound (given .k) (tableIn (given .table)) (given .letter) (at .loop .i) (cells (given .p .now))))
+    c .covers .result ≡ covered (members (given .list .now) (given .n)) (afterRound (given .k) (tableIn (given .table)) (given .letter) (at .loop .i) (cells (given .p .now))))
 led c =
     let stepped = c .before .before in
     let at = stepped .before .before .before in
     let given = at .before .args in
     c .covers .ensures
-    ∙ under-stepped (given .k) (tableIn (given .table)) (at .before .pre) (given .letter) (at .loop .i) (cells (given .p .now)) (members (given .list .now) (given .n))
+    ∙ covered-stepped (given .k) (tableIn (given .table)) (at .before .pre) (given .letter) (at .loop .i) (cells (given .p .now)) (members (given .list .now) (given .n))
     (cells (stepped .after-round .result)) (stepped .after-round .ensures)
 
 loop-holds : tie.Need-loop-holds Inv-loop μ-loop

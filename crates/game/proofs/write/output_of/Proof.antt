@@ -6,18 +6,18 @@ use Prim.Native.Nat.{ℕ, _≤_, _<_, _-_, zero-le}
 use native.Mathlib.Omega.{arith}
 use borrow.Author.Needs.{needs}
 use borrow.Author.Count.{below-none, below-more}
-use Rattle.meaning.specs.Written.{outputOf}
+use Rattle.meaning.specs.Written.{outputOf, leadsBack}
+use Rattle.meaning.specs.Counting.{covered}
 use Rattle.meaning.proofs.Tests.{first-is}
 use Rattle.counts.specs.Cells.{cells}
 use Rattle.table.specs.Packed.{tableIn}
 use Rattle.table.proofs.Searches.{first-none}
 use Rattle.sets.specs.Members.{members}
-use Rattle.game.specs.Finished.{under, leadsBack}
 use Rattle.game.proofs.write.output_of.Statement.{statement}
 use Rattle.game.proofs.write.output_of.Tie as tie
 
 abbrev Inv-loop : tie.InvT-loop
-Inv-loop table k list n p letter₀ letter = (letter ≤ table .outputs) × ((o : ℕ) → o < letter → leadsBack k (tableIn table) (under (members list n)) (cells p) o ≡ false)
+Inv-loop table k list n p letter₀ letter = (letter ≤ table .outputs) × ((o : ℕ) → o < letter → leadsBack k (tableIn table) (covered (members list n)) (cells p) o ≡ false)
 
 abbrev μ-loop : tie.MeasureT-loop
 μ-loop table k list n p letter₀ letter = table .outputs - letter

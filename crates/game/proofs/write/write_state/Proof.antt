@@ -7,13 +7,12 @@ use native.Mathlib.Omega.{arith}
 use borrow.Author.Needs.{needs}
 use lib.ListN.{length, getD, length-take, length-drop}
 use Rattle.meaning.specs.Lists.{tab, written}
-use Rattle.meaning.specs.Counting.{Position}
+use Rattle.meaning.specs.Counting.{Position, covered}
 use Rattle.meaning.specs.Written.{covering, afterRound, outputOf, rowBytes, rowsOfState}
 use Rattle.counts.specs.Cells.{cells}
 use Rattle.table.specs.Packed.{tableIn}
 use Rattle.sets.specs.Members.{members}
 use Rattle.sets.proofs.Members.{members-length}
-use Rattle.game.specs.Finished.{under}
 use Rattle.game.proofs.Written.{written-length}
 use Rattle.game.proofs.Stepped.{covering-stepped}
 use Rattle.game.proofs.Bytes.{member-cells}
@@ -36,7 +35,7 @@ output-on c =
     let given = start .args in
     let all = given .list .now in
     c .output-of .ensures
-    ∙ ap (outputOf (given .k) (tableIn (given .table)) (under (members all (given .n)))) (sym (member-cells all (given .state) (given .n) (start .pre .1) (start .pre .0)))
+    ∙ ap (outputOf (given .k) (tableIn (given .table)) (covered (members all (given .n)))) (sym (member-cells all (given .state) (given .n) (start .pre .1) (start .pre .0)))
 
 -- the next state is the state's for this input
 next-on : (c : tie.After-covering Inv-loop μ-loop)

@@ -17,7 +17,7 @@ use Rattle.game.proofs.Settled.{after-settled}
 use Rattle.join.specs.Beside.{allBeside}
 use Rattle.join.specs.Parts.{FirstPairs}
 use Rattle.join.proofs.Paired.{none-fails, joinable}
-use Rattle.game.proofs.Stage.{room-within}
+use Rattle.game.proofs.InOrder.{room-within}
 use Rattle.join.proofs.Settles.{refusal-leaves}
 use Rattle.join.proofs.Stages.{pairs-listed, first-full, second-full, pairs-full, pairs-passed}
 use Rattle.join.proofs.stage.in_turn.Statement.{statement}

@@ -23,7 +23,7 @@ use Rattle.game.proofs.Listed.{listed-roomy}
 use Rattle.join.specs.Joined.{joinedBytes}
 use Rattle.join.specs.Parts.{lastStage}
 use Rattle.join.proofs.Paired.{none-fails, joinable}
-use Rattle.game.proofs.Stage.{room-within, stage-full, settled-finished}
+use Rattle.game.proofs.InOrder.{room-within, stage-full, settled-finished}
 use Rattle.join.proofs.Settles.{refusal-leaves}
 use Rattle.join.proofs.Stages.{joined-read, joined-small, pairs-begin, pairs-covered, pairs-list, joined-playable}
 use Rattle.join.proofs.stage.last.Statement.{statement}

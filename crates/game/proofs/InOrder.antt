@@ -16,10 +16,9 @@ use Rattle.meaning.specs.declared.Refusal.the-variants.{Bound, Room, Full}
 use Rattle.meaning.specs.Records.{recordsOf, output, input}
 use Rattle.meaning.specs.Table.{Table, tableOf}
 use Rattle.meaning.specs.Rounds.{Set, FirstSet}
-use Rattle.meaning.specs.Answers.{refused, Solved, unsolved, solvedFrom}
+use Rattle.meaning.specs.Answers.{refused, Solved, unsolved, solvedFrom, solved}
 use Rattle.meaning.specs.Checks.{Check, check, judge, bound, room, tableChecks, stageChecks, Passes}
 use Rattle.meaning.proofs.Tests.{neither-left, neither-right}
-use Rattle.meaning.proofs.Good.{Good}
 use Rattle.meaning.proofs.Records.{letters-top}
 use Rattle.meaning.proofs.Checks.{judge-passes, judge-append}
 use Rattle.meaning.proofs.Sound.{passes-sound, passes-good}
@@ -29,7 +28,7 @@ use Rattle.table.proofs.Judged.{byChecked, failedCheck, judge-checked}
 use Rattle.sets.specs.Members.{members}
 use Rattle.sets.specs.Engine.{Small}
 use Rattle.game.specs.Rounds.{Settles}
-use Rattle.game.specs.Finished.{finished, leaves, Playable, Roomy}
+use Rattle.game.specs.Finished.{finished, Playable, Roomy, Fit}
 use Rattle.game.specs.declared.rounds.Settled.{Settled}
 use Rattle.game.specs.declared.rounds.Settled.the-variants.{After, Full as FullAfter}
 use Rattle.game.proofs.First.{passes-small}
@@ -41,11 +40,11 @@ module _ (K N : ℕ) (win con : List ℕ) (cs : List Check) (grant : Solved) whe
   abbrev pub opened : Solved
   opened = judge (bound K ∷ room N win con ∷ cs) (unsolved win con) grant
 
-  pub bound-refused : 7 < K → {answer : Answer} → answer ≡ refused (check Bound 0 0 true) → leaves answer win con ≡ opened
+  pub bound-refused : 7 < K → {answer : Answer} → answer ≡ refused (check Bound 0 0 true) → solved answer win con ≡ opened
   unfolding bound unsolved
   bound-refused h e = rw (e, lt-ltb 7 K h)
 
-  pub room-refused : K ≤ 7 → room N win con .failed ≡ true → {answer : Answer} → answer ≡ refused (check Room 0 0 true) → leaves answer win con ≡ opened
+  pub room-refused : K ≤ 7 → room N win con .failed ≡ true → {answer : Answer} → answer ≡ refused (check Room 0 0 true) → solved answer win con ≡ opened
   unfolding bound room unsolved
   room-refused h p e = rw (e, le-ltb 7 K h, p)
 
@@ -68,11 +67,11 @@ module _ (which : ℕ) (bytes : List ℕ) (win con : List ℕ) (cs : List Check)
   read = judge (tableChecks which bytes ++ cs) (unsolved win con) grant
 
   pub table-refused : {r : Refusal} {place : ℕ} → checkedOf (tableChecks 0 bytes) ≡ Fails r place → {answer : Answer}
-      → answer ≡ refused (check r place which true) → leaves answer win con ≡ read
+      → answer ≡ refused (check r place which true) → solved answer win con ≡ read
   unfolding unsolved
   table-refused {r} {place} f e =
       let rest = judge cs (unsolved win con) grant in
-      ap (λ (answer : Answer). leaves answer win con) e
+      ap (λ (answer : Answer). solved answer win con) e
       ∙ sym (judge-append (tableChecks which bytes) cs (unsolved win con) grant
       ∙ judge-checked which bytes (unsolved win con) rest
       ∙ ap (byChecked (λ (r : Refusal) (p : ℕ). unsolved win con (failedCheck which r p)) rest) f)
@@ -82,14 +81,7 @@ module _ (which : ℕ) (bytes : List ℕ) (win con : List ℕ) (cs : List Check)
       sym (judge-append (tableChecks which bytes) cs (unsolved win con) grant
       ∙ judge-passes (tableChecks which bytes) (unsolved win con) (judge cs (unsolved win con) grant) p)
 
--- a table that the rounds may be run on and the rows be written of: it may be played on, with at most eight states a side and eight letters
-pub record Fit (t : Table) : Type 0 where
-  pub small : Small t
-  pub good : Good t
-  pub outputs : t .outputs ≤ 8
-  pub inputs : t .inputs ≤ 8
-
--- as the table of bytes that pass 4 to 10 is
+-- the table of bytes that pass 4 to 10 may be solved
 pub passes-fit : (which : ℕ) (bytes : List ℕ) → Passes (tableChecks which bytes) → Fit (tableOf (recordsOf bytes))
 unfolding tableOf
 passes-fit which bytes p =
@@ -110,7 +102,7 @@ module _ {K : ℕ} {t : Table} {X : Set} {N : ℕ} {out : List (List ℤ)} {sett
   stage-full which refuse grant f = rw (full-settled settles f)
 
   pub settled-full : settled ≡ FullAfter → (which : ℕ) (win con : List ℕ) (grant : Solved) → {answer : Answer}
-      → answer ≡ refused (check Full 0 which true) → leaves answer win con ≡ judge (stageChecks which K N t X) (unsolved win con) grant
+      → answer ≡ refused (check Full 0 which true) → solved answer win con ≡ judge (stageChecks which K N t X) (unsolved win con) grant
   unfolding unsolved
   settled-full f which win con grant e = rw (e, stage-full which (unsolved win con) grant f)
 
