@@ -1,4 +1,5 @@
--- `same`: the loop's invariant is that the first i members of both are the same. The measure is the number of members left. Assumes nothing.
+-- `same`: the loop's invariant is that the first i members of both are the same. The measure is the number of members left. Assumes
+-- nothing.
 use mathlib.Core.Path.{_≡_, refl, sym, ap, _∙_}
 use mathlib.Core.Bool.{_&&_}
 use mathlib.Core.List.{List, []}
@@ -27,7 +28,8 @@ returns : tie.Need-returns Inv-loop μ-loop
 returns c =
     let given = c .before .args in
     sym (refuted _ (λ t. c .if1 .taken
-    (sym (members-length (given .a .now) (given .an) (omega arith)) ∙ ap length (same-lists _ _ .0 t) ∙ members-length (given .b .now) (given .bn) (omega arith))))
+    (sym (members-length (given .a .now) (given .an) (omega arith)) ∙ ap length (same-lists _ _ .0 t)
+    ∙ members-length (given .b .now) (given .bn) (omega arith))))
 
 loop-holds : tie.Need-loop-holds Inv-loop μ-loop
 unfolding members
