@@ -52,15 +52,15 @@ same-requires c κs = search needs
 
 returns-2 : tie.Need-returns-2 Inv-loop μ-loop
 returns-2 c =
-    let turn = c .before .before .before .before .before .before in
-    let at = turn .before in
+    let at = c .before .before .before .before .before .before .before in
     let given = at .before .before .args in
     let i = at .loop .i in
     let x = cells (getD (given .a .now) i []) in
     let y = cells (getD (given .b .now) i []) in
+    let in-a : i < given .an = omega arith in
     let in-b : i < given .bn = omega arith in
     sym (refuted _ (λ t.
-    let e : x ≡ y = sym (members-at (given .a .now) i (given .an) (turn .loop-test .taken))
+    let e : x ≡ y = sym (members-at (given .a .now) i (given .an) in-a)
     ∙ ap (λ (l : List Position). getD l i (cells [])) (same-lists _ _ .0 t) ∙ members-at (given .b .now) i (given .bn) in-b in
     clash (below x y && below y x) (both (below x y) (below y x) (rw e (below-refl y)) (rw e (below-refl y)))
     (sym (c .before .same .ensures) ∙ not-true _ (c .if2 .taken))))
