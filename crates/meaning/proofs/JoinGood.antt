@@ -1,5 +1,5 @@
 -- A join of two tables that pass passes 4 to 10 too. Its records stand among the states of both, so they are within the limits and declared;
--- kind by kind the first's climb below the second's, so they ascend, and there are at most 8 states on a side and 512 edges of a kind; its
+-- kind by kind the first's grow below the second's, so they ascend, and there are at most 8 states on a side and 512 edges of a kind; its
 -- states are numbered on; and side by side the two tables keep a start state and leave no gap.
 use mathlib.Core.Path.{_≡_, refl, ap, _∙_, subst, subst⁻¹}
 use mathlib.Core.Logic.{⊎-elim}
@@ -24,8 +24,8 @@ use Rattle.meaning.proofs.Union.{HalfUnion, Union, controllers-sum}
 use Rattle.meaning.proofs.Stands.{controllersOf, worldsOf, homeIn, awayIn, moveUp, Stands, home-few, stands-inside}
 use Rattle.meaning.proofs.Stands.{stands-declared, sound-stands, renumber-kind, renumber-from, renumber-letter, renumber-to, stands-first}
 use Rattle.meaning.proofs.Stands.{stands-second}
-use Rattle.meaning.proofs.Climbs.{value, value-range, below-ascends, Climbs, climbs-append, climbs-length, climbs-ofKind, climbs-map}
-use Rattle.meaning.proofs.Climbs.{climbs-within, climbs-at, sound-climbs}
+use Rattle.meaning.proofs.Growing.{value, value-range, below-ascends, Growing, growing-append, growing-length, growing-ofKind, growing-map}
+use Rattle.meaning.proofs.Growing.{growing-within, growing-at, sound-growing}
 use Rattle.meaning.proofs.JoinKinds.{byKind-kind, beside-kind, joined-count, joined-cases, joined-second}
 use Rattle.meaning.proofs.JoinUnion.{joined-at-first, joined-at-second, paired-union}
 
@@ -110,25 +110,25 @@ module _ (rs ss : List Record) (pair : Paired rs ss) where
             i (omega (arith, joined-count rs ss kind k));
       }
 
-  -- of a kind the first's records climb as far as their states go, and the second's from there
-  first-climbs : (kind : ℕ) → Climbs (512 * kind) (ofKind kind rs) (512 * kind + 64 * homeIn rs kind)
-  first-climbs kind =
-      climbs-within 0 2560 (512 * kind) (512 * kind + 64 * homeIn rs kind) (ofKind kind rs)
-      (climbs-ofKind kind 0 2560 rs (sound-climbs rs (pair .first))) (omega arith) (λ r m.
+  -- of a kind the first's records grow as far as their states go, and the second's from there
+  first-growing : (kind : ℕ) → Growing (512 * kind) (ofKind kind rs) (512 * kind + 64 * homeIn rs kind)
+  first-growing kind =
+      growing-within 0 2560 (512 * kind) (512 * kind + 64 * homeIn rs kind) (ofKind kind rs)
+      (growing-ofKind kind 0 2560 rs (sound-growing rs (pair .first))) (omega arith) (λ r m.
       let in-rs = ofKind-member kind rs r m in
       let of-kind = ofKind-kind kind rs r m in
       omega (arith, value-range r (pair .first .within r in-rs), sound-stands rs (pair .first) r in-rs .from-in, ap (homeIn rs) of-kind))
 
-  second-climbs : (kind : ℕ) → Kind kind → Climbs (512 * kind + 64 * homeIn rs kind) (map (moveUp rs) (ofKind kind ss)) (512 * suc kind)
+  second-growing : (kind : ℕ) → Kind kind → Growing (512 * kind + 64 * homeIn rs kind) (map (moveUp rs) (ofKind kind ss)) (512 * suc kind)
   unfolding tableOf
-  second-climbs kind k =
+  second-growing kind k =
       let up = 64 * homeIn rs kind + awayIn rs kind in
       let few = home-few 8 (controllersOf rs) (worldsOf rs) kind k (omega (arith, pair .controllers-few)) (omega (arith, pair .worlds-few)) in
-      climbs-within (up + 0) (up + 2560) (512 * kind + 64 * homeIn rs kind) (512 * suc kind) (map (moveUp rs) (ofKind kind ss))
-      (climbs-map (moveUp rs) up 0 2560 (ofKind kind ss) (λ s m.
+      growing-within (up + 0) (up + 2560) (512 * kind + 64 * homeIn rs kind) (512 * suc kind) (map (moveUp rs) (ofKind kind ss))
+      (growing-map (moveUp rs) up 0 2560 (ofKind kind ss) (λ s m.
       let of-kind = ofKind-kind kind ss s m in
       omega (arith, value-moved (controllersOf rs) (worldsOf rs) s, ap (homeIn rs) of-kind, ap (awayIn rs) of-kind))
-      (climbs-ofKind kind 0 2560 ss (sound-climbs ss (pair .second)))) (omega arith) (λ r m.
+      (growing-ofKind kind 0 2560 ss (sound-growing ss (pair .second)))) (omega arith) (λ r m.
       let found = Memᴰ·of-map (moveUp rs) (ofKind kind ss) m in
       let s = found .0 in
       let of-kind = ofKind-kind kind ss s (found .1) in
@@ -143,20 +143,20 @@ module _ (rs ss : List Record) (pair : Paired rs ss) where
         ap (homeIn rs) of-kind,
       ))
 
-  kind-climbs : (kind : ℕ) → Kind kind → Climbs (512 * kind) (ofKind kind (rs ++ map (moveUp rs) ss)) (512 * suc kind)
-  kind-climbs kind k =
-      subst⁻¹ (λ (l : List Record). Climbs (512 * kind) l (512 * suc kind)) (beside-kind kind (controllersOf rs) (worldsOf rs) rs ss)
-      (climbs-append (512 * kind) (512 * kind + 64 * homeIn rs kind) (512 * suc kind) (ofKind kind rs) (map (moveUp rs) (ofKind kind ss))
-      (first-climbs kind) (second-climbs kind k))
+  kind-growing : (kind : ℕ) → Kind kind → Growing (512 * kind) (ofKind kind (rs ++ map (moveUp rs) ss)) (512 * suc kind)
+  kind-growing kind k =
+      subst⁻¹ (λ (l : List Record). Growing (512 * kind) l (512 * suc kind)) (beside-kind kind (controllersOf rs) (worldsOf rs) rs ss)
+      (growing-append (512 * kind) (512 * kind + 64 * homeIn rs kind) (512 * suc kind) (ofKind kind rs) (map (moveUp rs) (ofKind kind ss))
+      (first-growing kind) (second-growing kind k))
 
-  joined-climbs : Climbs 512 (joined rs ss) 2560
+  joined-growing : Growing 512 (joined rs ss) 2560
   unfolding joined byKind
-  joined-climbs =
+  joined-growing =
       let kind : ℕ → List Record = λ kind. ofKind kind (rs ++ map (moveUp rs) ss) in
-      climbs-append 512 2048 2560 (kind controller ++ kind world ++ kind output) (kind input)
-      (climbs-append 512 1536 2048 (kind controller ++ kind world) (kind output)
-      (climbs-append 512 1024 1536 (kind controller) (kind world) (kind-climbs controller of-controller) (kind-climbs world of-world))
-      (kind-climbs output of-output)) (kind-climbs input of-input)
+      growing-append 512 2048 2560 (kind controller ++ kind world ++ kind output) (kind input)
+      (growing-append 512 1536 2048 (kind controller ++ kind world) (kind output)
+      (growing-append 512 1024 1536 (kind controller) (kind world) (kind-growing controller of-controller) (kind-growing world of-world))
+      (kind-growing output of-output)) (kind-growing input of-input)
 
   joined-size : (0 < length (joined rs ss)) × (length (joined rs ss) ≤ 1040)
   unfolding joined byKind tableOf
@@ -178,8 +178,8 @@ module _ (rs ss : List Record) (pair : Paired rs ss) where
         joined-count rs ss world of-world,
         ap length (byKind-kind world of-world zs),
         pair .worlds-few,
-        climbs-length 1536 2048 os (kind-climbs output of-output),
-        climbs-length 2048 2560 is (kind-climbs input of-input),
+        growing-length 1536 2048 os (kind-growing output of-output),
+        growing-length 2048 2560 is (kind-growing input of-input),
       )
 
   -- 4 LENGTH
@@ -205,7 +205,7 @@ module _ (rs ss : List Record) (pair : Paired rs ss) where
         within = joined-inside;
         ascending = λ i h.
             below-ascends (at js i) (at js (suc i)) (joined-inside (at js i) (member-at js i blank (omega arith)))
-            (joined-inside (at js (suc i)) (member-at js (suc i) blank h)) (climbs-at 512 2560 js joined-climbs i h);
+            (joined-inside (at js (suc i)) (member-at js (suc i) blank h)) (growing-at 512 2560 js joined-growing i h);
         controllers = joined-numbered controller of-controller refl (pair .first .controllers) (pair .second .controllers);
         worlds = joined-numbered world of-world refl (pair .first .worlds) (pair .second .worlds);
         start = union-start (tableOf rs) (tableOf ss) (tableOf js) un (pair .first .start);

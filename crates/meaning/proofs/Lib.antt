@@ -35,7 +35,7 @@ pub mod PairLists
 pub mod Swap
 pub mod Widths
 pub mod Stands
-pub mod Climbs
+pub mod Growing
 pub mod JoinKinds
 pub mod JoinUnion
 pub mod JoinGood

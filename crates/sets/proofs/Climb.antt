@@ -1,6 +1,5 @@
--- Climbing: a position of a list climbs to a maximal one by one run over the list, since whatever is still over the one reached stands further on.
--- So the tops cover the list.
--- Assumes nothing.
+-- Climbing: a position of a list climbs to a maximal one by one run over the list, since whatever is still over the one reached stands
+-- further on. So the tops cover the list. Assumes nothing.
 use mathlib.Core.Path.{_≡_, refl}
 use mathlib.Core.Logic.{⊎-elim}
 use mathlib.Core.Bool.{true, false, cond}
@@ -37,7 +36,8 @@ pub climbed-above : (l : List Position) (F : Position) → below F (climbed l F)
 unfolding climbed
 climbed-above [] F = below-refl F
 climbed-above (G ∷ l) F =
-    cond-cases (below F G) G F (λ H. below F (climbed l H) ≡ true) (λ b. below-trans F G (climbed l G) b (climbed-above l G)) (λ _. climbed-above l F)
+    cond-cases (below F G) G F (λ H. below F (climbed l H) ≡ true) (λ b. below-trans F G (climbed l G) b (climbed-above l G))
+    (λ _. climbed-above l F)
 
 -- and ends at a top of the list
 pub climbed-top : (Fs rest : List Position) → ((G : Position) → List·Memᴰ G rest → List·Memᴰ G Fs) → (F : Position) → List·Memᴰ F Fs

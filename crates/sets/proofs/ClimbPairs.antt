@@ -1,5 +1,5 @@
--- Climbing over the lesser counts of pairs, member by member: a position below x is below the lesser counts of x and y exactly if it is below y,
--- and one that is not below x is below no pair of x. Assumes nothing.
+-- Climbing over the lesser counts of pairs, member by member: a position below x is below the lesser counts of x and y exactly if it is
+-- below y, and one that is not below x is below no pair of x. Assumes nothing.
 use mathlib.Core.Path.{_≡_, sym, ap, _∙_}
 use mathlib.Core.Bool.{true, false}
 use mathlib.Core.List.{List, [], _∷_, _++_, map, map-append, Memᴰ·of-map, List·Memᴰ}
@@ -25,7 +25,8 @@ module _ (x : Position) (l : List Position) (F T y : Position) (reached : T ≡ 
       reached
       ∙ sym (ap (λ (m : List Position). climbed m F) (map-append (lesserCounts x) l (y ∷ []))
       ∙ climbed-past (map (lesserCounts x) l) F (lesserCounts x y)
-      (rw reached at (refuted (below T (lesserCounts x y)) (λ t. clash (below T y) (below-trans T (lesserCounts x y) y t (lesser-right x y)) b))))
+      (rw reached at (refuted (below T (lesserCounts x y))
+      (λ t. clash (below T y) (below-trans T (lesserCounts x y) y t (lesser-right x y)) b))))
 
 -- over all pairs: one more x that is above, and one more that is not
 module _ (xs ys : List Position) (F T x : Position) (reached : T ≡ climbed (meets xs ys) F) where

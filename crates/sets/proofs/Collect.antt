@@ -1,6 +1,6 @@
--- A loop that goes over candidates and keeps what they climb to: the array holds what the definition has collected from the candidates so far
--- (`Collects`). One that a kept one covers is passed over; what any other climbs to is added at the end; and if there is no room for it, there never
--- will be, since what is collected, from a list or from the rows of pairs, grows. Assumes nothing.
+-- A loop that goes over candidates and keeps what they climb to: the array holds what the definition has collected from the candidates so
+-- far (`Collects`). One that a kept one covers is passed over; what any other climbs to is added at the end; and if there is no room for
+-- it, there never will be, since what is collected, from a list or from the rows of pairs, grows. Assumes nothing.
 use mathlib.Core.Path.{_≡_, refl, sym, ap, _∙_}
 use mathlib.Core.Logic.{⊎-elim}
 use mathlib.Core.Bool.{true, false}
@@ -81,7 +81,8 @@ module _ {Fs l seen : List Position} {room : ℕ} {old out : List ℕ} {n : ℕ}
         record { within = so-far .within; long = so-far .long; holds = sym (onward (F ∷ []) ∙ keep-covered Fs (words out n) F c) }
 
     module _ (new : covered (words out n) F ≡ false) (h : room ≤ length old) where
-      pub collects-put : (top : ℕ) → countsIn top ≡ climbed Fs F → n < room → Collects Fs l (seen ++ F ∷ []) room old (set out n top) (n + 1)
+      pub collects-put : (top : ℕ) → countsIn top ≡ climbed Fs F → n < room
+          → Collects Fs l (seen ++ F ∷ []) room old (set out n top) (n + 1)
       unfolding collected
       collects-put top climb k =
           record {

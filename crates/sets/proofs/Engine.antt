@@ -1,7 +1,6 @@
--- The engine's lists are the maximal members of the named sets, in eight counts: a step back reads only the counts of states that are there, so
--- each cut and each widening does in eight counts what it does in the side's own. So the round in which the list repeats is the one that shows
--- equality, a list past the room is a named set past the room, and where none was, FULL is not given. Assumes
--- nothing.
+-- The engine's lists are the maximal members of the named sets, in eight counts: a step back reads only the counts of states that are
+-- there, so each cut and each widening does in eight counts what it does in the side's own. So the round in which the list repeats is the
+-- one that shows equality, a list past the room is a named set past the room, and where none was, FULL is not given. Assumes nothing.
 use mathlib.Core.Path.{_≡_, refl, sym, ap, ap₂, _∙_}
 use mathlib.Core.Bool.{true, false}
 use mathlib.Core.List.{List, [], _∷_, _++_, map, map-map, map-append, List·Memᴰ·head, List·Memᴰ·tail, Memᴰ·of-map}
@@ -89,7 +88,8 @@ pub allSafe-stands : (K n : ℕ) → StandsFor K n (allSafe K n) (positionBytes 
 allSafe-stands K n = ap (map positionBytes) (sym (allSafe-brim K n))
 
 -- lists of positions of one side are equal where they are in eight counts
-pub wide-lists-equal : (n : ℕ) → n ≤ 8 → (Fs Gs : List Position) → Sized n Fs → Sized n Gs → map positionBytes Fs ≡ map positionBytes Gs → Fs ≡ Gs
+pub wide-lists-equal : (n : ℕ) → n ≤ 8 → (Fs Gs : List Position) → Sized n Fs → Sized n Gs → map positionBytes Fs ≡ map positionBytes Gs
+    → Fs ≡ Gs
 wide-lists-equal n h [] [] s r e = refl
 wide-lists-equal n h [] (G ∷ Gs) s r e = absurd (omega (arith, ap length e))
 wide-lists-equal n h (F ∷ Fs) [] s r e = absurd (omega (arith, ap length e))
@@ -101,14 +101,16 @@ wide-lists-equal n h (F ∷ Fs) (G ∷ Gs) s r e =
     (wide-lists-equal n h Fs Gs (λ H m. s H (List·Memᴰ·tail m)) (λ H m. r H (List·Memᴰ·tail m)) rest)
 
 -- two sets of one side are equal where their lists are
-pub stands-equal : (K n : ℕ) → n ≤ 8 → (X Y : Set) → Down X → Down Y → Within X (allSafe K n) → Within Y (allSafe K n) → (l m : List Position)
+pub stands-equal : (K n : ℕ) → n ≤ 8 → (X Y : Set) → Down X → Down Y → Within X (allSafe K n) → Within Y (allSafe K n)
+    → (l m : List Position)
     → StandsFor K n X l → StandsFor K n Y m → l ≡ m → (F : Position) → X F ≡ Y F
 stands-equal K n h X Y dX dY sX sY l m a b e =
     members-determine K n X Y sX sY dX dY
     (wide-lists-equal n h (maximalMembers K n X) (maximalMembers K n Y) (members-sized K n X sX) (members-sized K n Y sY) (sym a ∙ e ∙ b))
 
 -- and the lists are equal where the sets are
-pub equal-stands : (K n : ℕ) (X Y : Set) (l m : List Position) → StandsFor K n X l → StandsFor K n Y m → ((F : Position) → X F ≡ Y F) → l ≡ m
+pub equal-stands : (K n : ℕ) (X Y : Set) (l m : List Position) → StandsFor K n X l → StandsFor K n Y m → ((F : Position) → X F ≡ Y F)
+    → l ≡ m
 equal-stands K n X Y l m a b p = a ∙ ap (map positionBytes) (members-same K n X Y p) ∙ sym b
 
 -- the rounds that have run, without a repeat and within the room: r of them, and the list of W(r)
@@ -148,7 +150,8 @@ module _ (K : ℕ) (t : Table) (small : Small t) (X : Set) (first : FirstSet K t
     round-A-length : (j : ℕ) → length (listA K t ws j) ≡ length (maximalMembers K (t .worlds) (setA K t (setW K t X r) j))
     round-A-length j = stands-length K (t .worlds) (setA K t (setW K t X r) j) (listA K t ws j) (round-A j)
 
-    round-B-length : (k : ℕ) → length (listB K t (listA K t ws (t .inputs)) k) ≡ length (maximalMembers K (t .controllers) (setB K t (setW K t X r) k))
+    round-B-length : (k : ℕ)
+        → length (listB K t (listA K t ws (t .inputs)) k) ≡ length (maximalMembers K (t .controllers) (setB K t (setW K t X r) k))
     round-B-length k = stands-length K (t .controllers) (setB K t (setW K t X r) k) (listB K t (listA K t ws (t .inputs)) k) (round-B k)
 
     -- the rounds with this one are within the room, if its lists are
@@ -201,7 +204,8 @@ module _ (K : ℕ) (t : Table) (small : Small t) (X : Set) (first : FirstSet K t
   running-bound r ws run = omega (arith, running-early r ws run, rounds-bound K t X first output)
 
   -- a list past the room: FULL
-  pub running-full-A : (r : ℕ) (ws : List Position) → Running K t X N r ws → (j : ℕ) → j ≤ t .inputs → N < length (listA K t ws j) → full K t X N ≡ true
+  pub running-full-A : (r : ℕ) (ws : List Position) → Running K t X N r ws → (j : ℕ) → j ≤ t .inputs → N < length (listA K t ws j)
+      → full K t X N ≡ true
   running-full-A r ws run j h l =
       full-exactly K t X N .1 (r, running-early r ws run, in-A j h (omega (arith, round-A-length r ws run j)))
 
@@ -220,12 +224,17 @@ module _ (K : ℕ) (t : Table) (small : Small t) (X : Set) (first : FirstSet K t
       → ((k : ℕ) → k ≤ t .outputs → length (listB K t (listA K t ws (t .inputs)) k) ≤ N) → nextList K t ws ≡ ws
       → (rounds K t X ≡ r) × (ws ≡ map positionBytes (winners K t X)) × (full K t X N ≡ false)
   unfolding winners winning
-  running-settled r ws run a b e =
-      (last, rw last (run .stands), refuted (full K t X N) (λ f. let o = full-exactly K t X N .0 f in roomy (o .0) (rw last at (o .1)) (o .2)))
+  running-settled r ws run a b e = (
+    last,
+    rw last (run .stands),
+    refuted (full K t X N)
+        (λ f. let o = full-exactly K t X N .0 f in roomy (o .0) (rw last at (o .1)) (o .2)),
+  )
     where
       same : (F : Position) → setW K t X r F ≡ setW K t X (suc r) F
       same =
-          stands-equal K (t .controllers) (small .controllers) (setW K t X r) (setW K t X (suc r)) (setW-down K t X first r) (setW-down K t X first (suc r))
+          stands-equal K (t .controllers) (small .controllers) (setW K t X r) (setW K t X (suc r)) (setW-down K t X first r)
+          (setW-down K t X first (suc r))
           (setW-safe K t X first r) (setW-safe K t X first (suc r)) ws (nextList K t ws) (run .stands) (round-next r ws run) (sym e)
 
       last : rounds K t X ≡ r

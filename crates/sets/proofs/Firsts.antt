@@ -1,5 +1,5 @@
--- The first n positions of an array, whatever its elements are read as positions by: what one more or fewer of them is, and what a store changes.
--- Assumes nothing.
+-- The first n positions of an array, whatever its elements are read as positions by: what one more or fewer of them is, and what a store
+-- changes. Each from the library's laws of take, drop and set. Assumes nothing.
 use mathlib.Core.Path.{_≡_, sym, ap, _∙_}
 use mathlib.Core.List.{List, [], _∷_, _++_, map, map-append}
 use Prim.Native.Nat.{ℕ, suc, _+_, _-_, _≤_, _<_}

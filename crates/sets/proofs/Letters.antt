@@ -1,5 +1,5 @@
--- The named sets by their maximal members, letter by letter: A's next list is the tops of the lesser counts of its members and the members of W
--- stepped back, B's next list the tops of its members and the members of A stepped back. Each set holds exactly what its list covers
+-- The named sets by their maximal members, letter by letter: A's next list is the tops of the lesser counts of its members and the members
+-- of W stepped back, B's next list the tops of its members and the members of A stepped back. Each set holds exactly what its list covers
 -- (`members-tops`): a position leads below a member of W exactly if it is below that member stepped back. Assumes nothing.
 use mathlib.Core.Path.{_≡_, refl, sym, ap, _∙_}
 use mathlib.Core.Logic.{_⊎_, inl, inr, ⊎-elim, _↔_}
@@ -59,14 +59,16 @@ allSafe-brim K n =
     ∙ tops-one (brim K n)
 
 -- a position leads into a set exactly if it is below a maximal member stepped back
-pub leads-back : (K : ℕ) (h : Half) (Y : Set) → Down Y → Within Y (allSafe K (h .targets)) → (F : Position) → allSafe K (h .sources) F ≡ true
+pub leads-back : (K : ℕ) (h : Half) (Y : Set) → Down Y → Within Y (allSafe K (h .targets)) → (F : Position)
+    → allSafe K (h .sources) F ≡ true
     → (Y (forward K h F) ≡ true) ↔ Covered (map (back K h) (maximalMembers K (h .targets) Y)) F
 leads-back K h Y down safe F a = (to, fro)
   where
     -- below a member stepped back, and forward below the member, are the same
     same : (G : Position) → Y G ≡ true → (below (forward K h F) G ≡ true) ↔ (below F (back K h G) ≡ true)
     same G y =
-        forward-back K h F G (allSafe-length K (h .sources) F a) (allSafe-length K (h .targets) G (safe G y)) (allSafe-safe K (h .sources) F a)
+        forward-back K h F G (allSafe-length K (h .sources) F a) (allSafe-length K (h .targets) G (safe G y))
+        (allSafe-safe K (h .sources) F a)
         (allSafe-safe K (h .targets) G (safe G y))
 
     to : Y (forward K h F) ≡ true → Covered (map (back K h) (maximalMembers K (h .targets) Y)) F
@@ -104,7 +106,8 @@ setB-suc K t W k F s = (to, fro)
     to : setB K t W (suc k) F ≡ true → (setB K t W k F ≡ true) ⊎ leads k
     to b =
         let (o, l, a) = setB-leads K t W (suc k) F b in
-        below-last {P = λ (i : ℕ). leads i → (setB K t W k F ≡ true) ⊎ leads k} k (λ i h c. inl (setB-of K t W k F s i h c)) (λ c. inr c) o l a
+        below-last {P = λ (i : ℕ). leads i → (setB K t W k F ≡ true) ⊎ leads k} k (λ i h c. inl (setB-of K t W k F s i h c))
+        (λ c. inr c) o l a
 
     fro : (setB K t W k F ≡ true) ⊎ leads k → setB K t W (suc k) F ≡ true
     fro (inl b) = let (o, l, a) = setB-leads K t W k F b in setB-of K t W (suc k) F s o (omega arith) a
@@ -137,8 +140,11 @@ module _ (K : ℕ) (t : Table) (W : Set) (down : Down W) (safe : Within W (allSa
           let a : setA K t W j H ≡ true =
           setA-down K t W j down H F (ap length e ∙ lesser-length F G) (ap (λ (x : Position). below x F) e ∙ lesser-left F G)
           (member-in K (t .worlds) (setA K t W j) (setA-safe K t W j) F f) in
-          setA-suc K t W j H .1
-          (a, leads-back K (onInput t j) W down safe H (setA-safe K t W j H a) .1 (G, g, ap (λ (x : Position). below x G) e ∙ lesser-right F G))
+          setA-suc K t W j H .1 (
+            a,
+            leads-back K (onInput t j) W down safe H (setA-safe K t W j H a) .1
+                (G, g, ap (λ (x : Position). below x G) e ∙ lesser-right F G),
+          )
 
       covered : (F : Position) → setA K t W (suc j) F ≡ true → Covered (meets members backs) F
       covered F a =
@@ -156,7 +162,8 @@ module _ (K : ℕ) (t : Table) (W : Set) (down : Down W) (safe : Within W (allSa
 
   -- B(r, k + 1)
   pub setB-widen : (k : ℕ) → maximalMembers K (t .controllers) (setB K t W (suc k))
-      ≡ tops (maximalMembers K (t .controllers) (setB K t W k) ++ map (back K (onOutput t k)) (maximalMembers K (t .worlds) (setA K t W (t .inputs))))
+      ≡ tops (maximalMembers K (t .controllers) (setB K t W k)
+      ++ map (back K (onOutput t k)) (maximalMembers K (t .worlds) (setA K t W (t .inputs))))
   setB-widen k =
       members-tops K (t .controllers) (setB K t W (suc k)) (setB-safe K t W (suc k)) (members ++ backs) inside covered
     where
@@ -166,7 +173,8 @@ module _ (K : ℕ) (t : Table) (W : Set) (down : Down W) (safe : Within W (allSa
       backs : List Position
       backs = map (back K (onOutput t k)) (maximalMembers K (t .worlds) (setA K t W (t .inputs)))
 
-      leads : (F : Position) → allSafe K (t .controllers) F ≡ true → (setA K t W (t .inputs) (forward K (onOutput t k) F) ≡ true) ↔ Covered backs F
+      leads : (F : Position) → allSafe K (t .controllers) F ≡ true
+          → (setA K t W (t .inputs) (forward K (onOutput t k) F) ≡ true) ↔ Covered backs F
       leads = leads-back K (onOutput t k) (setA K t W (t .inputs)) (setA-down K t W (t .inputs) down) (setA-safe K t W (t .inputs))
 
       back-in : (F : Position) → List·Memᴰ F backs → allSafe K (t .controllers) F ≡ true
@@ -179,7 +187,8 @@ module _ (K : ℕ) (t : Table) (W : Set) (down : Down W) (safe : Within W (allSa
           ⊎-elim
           (λ f. let b : setB K t W k F ≡ true = member-in K (t .controllers) (setB K t W k) (setB-safe K t W k) F f in
           setB-suc K t W k F (setB-safe K t W k F b) .1 (inl b))
-          (λ f. setB-suc K t W k F (back-in F f) .1 (inr (leads F (back-in F f) .1 (F, f, below-refl F)))) (List·Memᴰ·append-cases members m)
+          (λ f. setB-suc K t W k F (back-in F f) .1 (inr (leads F (back-in F f) .1 (F, f, below-refl F))))
+          (List·Memᴰ·append-cases members m)
 
       covered : (F : Position) → setB K t W (suc k) F ≡ true → Covered (members ++ backs) F
       covered F b =

@@ -1,5 +1,6 @@
--- The first n positions of an array, and of one of words: what one more of them is, and what a store changes, as for any array (`Firsts`). The test
--- of two lists tells their equality, by induction on both. The answer of a function that fills an array says how many it holds. Assumes nothing.
+-- The first n positions of an array, and of one of words: what one more of them is, and what a store changes, as for any array (`Firsts`).
+-- The test of two lists tells their equality, by induction on both. The answer of a function that fills an array says how many it holds.
+-- Assumes nothing.
 use mathlib.Core.Path.{_≡_, refl, sym, ap, ap₂, _∙_}
 use mathlib.Core.Logic.{_↔_}
 use mathlib.Core.Bool.{Bool, true, true≢false}
@@ -20,7 +21,8 @@ use Rattle.sets.specs.Members.{words, members, alike, sameLists, foundOf
 use Rattle.sets.specs.declared.tops.Found.{Found}
 use Rattle.sets.specs.declared.tops.Found.the-variants.{Number, Full}
 use Rattle.sets.proofs.Kept.{Sized}
-use Rattle.sets.proofs.Firsts.{first-length, first-at, first-whole, first-beyond, first-more, first-last, first-first, first-after, first-split}
+use Rattle.sets.proofs.Firsts.{first-length, first-at, first-whole, first-beyond, first-more, first-last, first-first, first-after}
+use Rattle.sets.proofs.Firsts.{first-split}
 use Rattle.sets.proofs.Firsts.{first-store}
 
 module _ (all : List (List ℤ)) where
@@ -103,7 +105,8 @@ module _ {A : Type 0} (test : A → A → Bool) (tells : (x y : A) → (test x y
       to [] (y ∷ ys) t = absurd (true≢false (sym t))
       to (x ∷ xs) [] t = absurd (true≢false (sym t))
       to (x ∷ xs) (y ∷ ys) t =
-          ap₂ (λ (z : A) (l : List A). z ∷ l) (tells x y .0 (both-left (test x y) (alike test xs ys) t)) (to xs ys (both-right (test x y) (alike test xs ys) t))
+          ap₂ (λ (z : A) (l : List A). z ∷ l) (tells x y .0 (both-left (test x y) (alike test xs ys) t))
+          (to xs ys (both-right (test x y) (alike test xs ys) t))
 
       fro : (xs : List A) → alike test xs xs ≡ true
       fro [] = refl

@@ -1,5 +1,5 @@
--- What a run over a list knows of it: whether a test holds of any, the place of the first of which it does, and those of which it does, when one more
--- member is seen at the list's end. Each by induction on the list. Assumes nothing.
+-- What a run over a list knows of it: whether a test holds of any, the place of the first of which it does, and those of which it does,
+-- when one more member is seen at the list's end. Each by induction on the list. Assumes nothing.
 use mathlib.Core.Path.{_≡_, refl, ap, _∙_}
 use mathlib.Core.Bool.{Bool, true, false, not, cond, _||_}
 use mathlib.Core.List.{List, [], _∷_, _++_, append-nil, Memᴰ·append-right, List·Memᴰ·head}

@@ -1,7 +1,7 @@
--- The pairs of two lists: those of either that the other covers are pairs themselves, and maximal, since every pair is below a position of each list and
--- each list is alone. Any other pair below none of them is of two that are not covered. Of those, row by row: what is over a candidate of a row is
--- covered by none kept, or the candidate would be, and is not of the row, since the row's thinned ones cover it and are alone; so it stands in the rows
--- to come, along which the candidate climbs. When no row is left all is covered. Assumes nothing.
+-- The pairs of two lists: those of either that the other covers are pairs themselves, and maximal, since every pair is below a position of
+-- each list and each list is alone. Any other pair below none of them is of two that are not covered. Of those, row by row: what is over a
+-- candidate of a row is covered by none kept, or the candidate would be, and is not of the row, since the row's thinned ones cover it and
+-- are alone; so it stands in the rows to come, along which the candidate climbs. When no row is left all is covered. Assumes nothing.
 use mathlib.Core.Path.{_≡_, sym, ap, _∙_}
 use mathlib.Core.Logic.{_⊎_, inl, inr, ⊎-elim}
 use mathlib.Core.Bool.{true, not}
@@ -69,7 +69,8 @@ module _ (Fs : List Position) (x : Position) (xs ys l : List Position) (left : L
       still : Covered (l ++ candidates x ys) G → Covered (collected (meets xs ys) l (candidates x ys)) G
       still = collected-covers (meets xs ys) l (candidates x ys) G
 
-rows-run : (n : ℕ) (Fs : List Position) → Sized n Fs → (xs ys l : List Position) → ((G : Position) → List·Memᴰ G (meets xs ys) → List·Memᴰ G Fs) → Picked Fs l
+rows-run : (n : ℕ) (Fs : List Position) → Sized n Fs → (xs ys l : List Position)
+    → ((G : Position) → List·Memᴰ G (meets xs ys) → List·Memᴰ G Fs) → Picked Fs l
     → Left Fs l (meets xs ys) → Picked Fs (rowsOf xs ys l) × ((G : Position) → List·Memᴰ G Fs → Covered (rowsOf xs ys l) G)
 unfolding rowsOf meets flatMap
 rows-run n Fs s [] ys l within run left = (run, λ G m. ⊎-elim (λ (c : Covered l G). c) (λ k. absurd (List·Memᴰ·not-nil k)) (left G m))
@@ -102,10 +103,12 @@ module _ (n : ℕ) (X Y : List Position) (s : Sized n X) (r : Sized n Y) (own : 
   ys = keep (uncovered X) Y
 
   -- one below both of a pair, and above their lesser counts, is a pair
-  pair : (F x y : Position) → List·Memᴰ x X → List·Memᴰ y Y → length F ≡ n → below F x ≡ true → below F y ≡ true → below (lesserCounts x y) F ≡ true
+  pair : (F x y : Position) → List·Memᴰ x X → List·Memᴰ y Y → length F ≡ n → below F x ≡ true → below F y ≡ true
+      → below (lesserCounts x y) F ≡ true
       → List·Memᴰ F (meets X Y)
   pair F x y m k e b c d =
-      Memᴰ·cast (below-antisym F (lesserCounts x y) (e ∙ sym (lesser-length x y ∙ s x m)) (lesser-of x y F b c) d) (meets-member X Y x y m k)
+      Memᴰ·cast (below-antisym F (lesserCounts x y) (e ∙ sym (lesser-length x y ∙ s x m)) (lesser-of x y F b c) d)
+      (meets-member X Y x y m k)
 
   whole-kept : Kept (meets X Y) whole
   whole-kept =
@@ -127,7 +130,8 @@ module _ (n : ℕ) (X Y : List Position) (s : Sized n X) (r : Sized n Y) (own : 
       (λ F m. let c = any-at (below F) X (keep-holds (covered X) Y F m) in
       let k = keep-member (covered X) Y F m in
       pair F (c .0) F (c .1) k (r F k) (c .2) (below-refl F) (lesser-right (c .0) F))
-      (λ F m _. climbing-none (meets X Y) [] F (λ G. alone-maximal n (meets X Y) Y sized r alone second F G (keep-member (covered X) Y F m)))
+      (λ F m _. climbing-none (meets X Y) [] F
+      (λ G. alone-maximal n (meets X Y) Y sized r alone second F G (keep-member (covered X) Y F m)))
     where
       second : (G : Position) → List·Memᴰ G (meets X Y) → Covered Y G
       second G m = let p = member-meets X Y G m in (p .1, p .3, ap (λ (F : Position). below F (p .1)) (p .4) ∙ lesser-right (p .0) (p .1))
@@ -143,7 +147,8 @@ module _ (n : ℕ) (X Y : List Position) (s : Sized n X) (r : Sized n Y) (own : 
       go (x, y, k, j, e) =
           ⊎-elim (λ c. inl (still (x, Memᴰ·append-left fits (keep-of (covered Y) X x k c), rw e (lesser-left x y))))
           (λ c. ⊎-elim (λ d. inl (still (y, Memᴰ·append-right whole (keep-of (covered X) Y y j d), rw e (lesser-right x y))))
-          (λ d. inr (Memᴰ·cast e (meets-member xs ys x y (keep-of (uncovered Y) X x k (ap not c)) (keep-of (uncovered X) Y y j (ap not d)))))
+          (λ d. inr (Memᴰ·cast e (meets-member xs ys x y (keep-of (uncovered Y) X x k (ap not c))
+          (keep-of (uncovered X) Y y j (ap not d)))))
           (decided (covered X y)))
           (decided (covered Y x))
 

@@ -1,6 +1,6 @@
--- A run over candidates that passes by what a kept one covers and keeps what any other climbs to (`collected`): it keeps maximal ones, each once
--- (`Picked`), if whatever is over a candidate that none covered at first stands in the list that it climbs along; and it covers each candidate. A run
--- that has covered all keeps the tops. Assumes nothing.
+-- A run over candidates that passes by what a kept one covers and keeps what any other climbs to (`collected`): it keeps maximal ones, each
+-- once (`Picked`), if whatever is over a candidate that none covered at first stands in the list that it climbs along; and it covers each
+-- candidate. A run that has covered all keeps the tops. Assumes nothing.
 use mathlib.Core.Path.{_≡_, refl, sym, ap, _∙_}
 use mathlib.Core.Logic.{⊎-elim}
 use mathlib.Core.Bool.{true, false}
@@ -33,7 +33,8 @@ climbing-none Fs Cs F top G m a b = absurd (clash (below G F) (rw (top G m a) (b
 
 -- one more candidate: what was kept is, and it is covered
 module _ (Cs l : List Position) (F : Position) where
-  one-cases : (P : List Position → Type 0) → (covered l F ≡ true → P l) → (covered l F ≡ false → P (l ++ climbed Cs F ∷ [])) → P (keepOne Cs l F)
+  one-cases : (P : List Position → Type 0) → (covered l F ≡ true → P l) → (covered l F ≡ false → P (l ++ climbed Cs F ∷ []))
+      → P (keepOne Cs l F)
   unfolding keepOne
   one-cases P = cond-cases (covered l F) l (l ++ climbed Cs F ∷ []) P
 
@@ -51,7 +52,8 @@ collected-covers Cs l [] F c = rw (append-nil l) at c
 collected-covers Cs l (G ∷ rest) F c =
     collected-covers Cs (keepOne Cs l G) rest F
     (⊎-elim (λ m. (c .0, Memᴰ·append-left rest (one-keeps Cs l G (c .0) m), c .2))
-    (λ m. ⊎-elim (λ (e : c .0 ≡ G). first (rw e at (c .2))) (λ k. (c .0, Memᴰ·append-right (keepOne Cs l G) k, c .2)) (List·Memᴰ·cases-cons m))
+    (λ m. ⊎-elim (λ (e : c .0 ≡ G). first (rw e at (c .2))) (λ k. (c .0, Memᴰ·append-right (keepOne Cs l G) k, c .2))
+    (List·Memᴰ·cases-cons m))
     (List·Memᴰ·append-cases l (c .1)))
   where
     first : below F G ≡ true → Covered (keepOne Cs l G ++ rest) F
@@ -71,7 +73,12 @@ module _ (n : ℕ) (Fs : List Position) (s : Sized n Fs) where
           record {
             kept = rw (sorted-more l T) (kept-put Fs (sorted l) T (run .kept) (t .0) (top-alone n Fs s T (t .0) (t .1)));
             different = rw (sorted-more l T)
-                (omega (arith, put-new T (sorted l) (λ k. new (T, member-sorted l T k, climbed-above Cs F)), run .different, length-append l (T ∷ [])));
+                (omega (
+                  arith,
+                  put-new T (sorted l) (λ k. new (T, member-sorted l T k, climbed-above Cs F)),
+                  run .different,
+                  length-append l (T ∷ []),
+                ));
           }
 
   -- all of them
@@ -81,7 +88,8 @@ module _ (n : ℕ) (Fs : List Position) (s : Sized n Fs) where
   unfolding collected
   collected-picked Cs l [] within run among climb = run
   collected-picked Cs l (F ∷ rest) within run among climb =
-      collected-picked Cs (keepOne Cs l F) rest within (one-run Cs l F within run (among F (List·Memᴰ·head refl)) (climb F (List·Memᴰ·head refl)))
+      collected-picked Cs (keepOne Cs l F) rest within
+      (one-run Cs l F within run (among F (List·Memᴰ·head refl)) (climb F (List·Memᴰ·head refl)))
       (λ G m. among G (List·Memᴰ·tail m))
       (λ G m new. climb G (List·Memᴰ·tail m) (λ c. new (c .0, one-keeps Cs l F (c .0) (c .1), c .2)))
 

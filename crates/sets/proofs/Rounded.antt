@@ -1,9 +1,10 @@
--- What the lists of a round are: each is its own tops, its positions have eight counts, and no count is over K + 1, since a cut takes lesser counts
--- and a step back is safe. So each may be cut or widened by the next letter. Assumes nothing.
+-- What the lists of a round are: each is its own tops, its positions have eight counts, and no count is over K + 1, since a cut takes
+-- lesser counts and a step back is safe. So each may be cut or widened by the next letter. Assumes nothing.
 use mathlib.Core.Path.{_≡_, refl}
 use mathlib.Core.Logic.{⊎-elim}
 use mathlib.Core.Bool.{true}
-use mathlib.Core.List.{List, [], _∷_, _++_, map, Memᴰ·of-map, List·Memᴰ, List·Memᴰ·append-cases, List·Memᴰ·not-nil, List·Memᴰ·eq-of-singleton}
+use mathlib.Core.List.{List, [], _∷_, _++_, map, Memᴰ·of-map, List·Memᴰ, List·Memᴰ·append-cases, List·Memᴰ·not-nil}
+use mathlib.Core.List.{List·Memᴰ·eq-of-singleton}
 use Prim.Native.Nat.{ℕ, zero, suc, _+_, _≤_, _<_}
 use native.Mathlib.Decide.{decLt}
 use native.Mathlib.Omega.{arith}

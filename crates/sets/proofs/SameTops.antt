@@ -1,6 +1,6 @@
--- Which lists have the same tops: two that cover each other, since a top of one is below a position of the other and that below a top of the first
--- again, so that all three are one; in particular some of a list's positions that cover it, and the tops themselves. A list that is its own tops ascends
--- and is alone. Assumes nothing.
+-- Which lists have the same tops: two that cover each other, since a top of one is below a position of the other and that below a top of
+-- the first again, so that all three are one; in particular some of a list's positions that cover it, and the tops themselves. A list that
+-- is its own tops ascends and is alone. Assumes nothing.
 use mathlib.Core.Path.{_≡_, sym, _∙_}
 use mathlib.Core.Bool.{true}
 use mathlib.Core.List.{List, Memᴰ·cast, List·Memᴰ}

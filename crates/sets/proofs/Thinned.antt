@@ -1,5 +1,6 @@
--- Thinning a list: what is left is of the list, covers it, and none of it is above another, by induction on the list; one position more is a case
--- split on whether one that is left covers it. So a thinned list has the same tops as the list, paired with another list or after it. Assumes nothing.
+-- Thinning a list: what is left is of the list, covers it, and none of it is above another, by induction on the list; one position more is
+-- a case split on whether one that is left covers it. So a thinned list has the same tops as the list, paired with another list or after
+-- it. Assumes nothing.
 use mathlib.Core.Path.{_≡_, refl, sym, ap, _∙_}
 use mathlib.Core.Logic.{_⊎_, inl, inr, ⊎-elim}
 use mathlib.Core.Bool.{true, false, not}
@@ -63,7 +64,8 @@ pub thinned-among : (Fs : List Position) (F : Position) → List·Memᴰ F (thin
 unfolding thinned
 thinned-among [] F m = m
 thinned-among (G ∷ Gs) F m =
-    ⊎-elim (λ (e : F ≡ G). List·Memᴰ·head e) (λ k. List·Memᴰ·tail (thinned-among Gs F k)) (List·Memᴰ·cases-cons (one-among G (thinned Gs) F m))
+    ⊎-elim (λ (e : F ≡ G). List·Memᴰ·head e) (λ k. List·Memᴰ·tail (thinned-among Gs F k))
+    (List·Memᴰ·cases-cons (one-among G (thinned Gs) F m))
 
 pub thinned-covers : (Fs : List Position) (F : Position) → List·Memᴰ F Fs → Covered (thinned Fs) F
 unfolding thinned

@@ -1,6 +1,6 @@
--- Two lists together: those of the first that the second does not cover, and what the second adds, are the tops of both. Those of the first have only
--- themselves above them, in either list. One of the second that they do not cover has nothing over it: what is above it is itself, or is of the first
--- and covered by one of the second, which then is itself too. Assumes nothing.
+-- Two lists together: those of the first that the second does not cover, and what the second adds, are the tops of both. Those of the first
+-- have only themselves above them, in either list. One of the second that they do not cover has nothing over it: what is above it is
+-- itself, or is of the first and covered by one of the second, which then is itself too. Assumes nothing.
 use mathlib.Core.Path.{_≡_, ap}
 use mathlib.Core.Logic.{⊎-elim}
 use mathlib.Core.Bool.{true, not}

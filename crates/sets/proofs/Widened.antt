@@ -1,5 +1,5 @@
--- Widening positions of at most eight counts to eight keeps below and the order as byte strings, so it keeps the tops, and lesser counts. Assumes
--- nothing.
+-- Widening positions of at most eight counts to eight keeps below and the order as byte strings, so it keeps the tops, and lesser counts.
+-- Assumes nothing.
 use mathlib.Core.Path.{_≡_, refl, sym, ap, ap₂, _∙_}
 use mathlib.Core.Bool.{true}
 use mathlib.Core.List.{List, [], _∷_, _++_, map, flatMap, map-map, map-append, Memᴰ·cast, Memᴰ·map, Memᴰ·of-map}
@@ -53,7 +53,8 @@ tops-wide n Fs h s =
         let c = tops-cover Fs (f .0) (f .1) in (
           positionBytes (c .0),
           Memᴰ·map positionBytes (c .1),
-          ap (λ (x : Position). below x (positionBytes (c .0))) (sym (f .2)) ∙ below-wide (f .0) (c .0) (rw (s (f .0) (f .1)) h) (rw (tops-sized n Fs s (c .0) (c .1)) h) ∙ c .2,
+          ap (λ (x : Position). below x (positionBytes (c .0))) (sym (f .2)) ∙ below-wide (f .0) (c .0) (rw (s (f .0) (f .1)) h)
+              (rw (tops-sized n Fs s (c .0) (c .1)) h) ∙ c .2,
         )
 
 pub meets-wide : (n : ℕ) (Fs Gs : List Position) → n ≤ 8 → Sized n Fs → Sized n Gs

@@ -1,5 +1,5 @@
--- How the engine finds the maximal ones of the pairs of two lists, and of two lists together: it goes over candidates, and climbs from each that it
--- has not covered yet.
+-- How the engine finds the maximal ones of the pairs of two lists, and of two lists together: it goes over candidates, and climbs from each
+-- that it has not covered yet.
 use mathlib.Core.Bool.{Bool, cond, not}
 use mathlib.Core.List.{List, [], _∷_, _++_, map, reverse}
 use Rattle.meaning.specs.Lists.{keep}

@@ -50,9 +50,11 @@ pub fn cut(
     n: usize,
     room: usize,
 ) -> Found
-    requires { ⌜ (k ≤ 7) × (m ≤ 256) × (m ≤ length (now into)) × (n ≤ 256) × (n ≤ length (now set)) × (room ≤ 256) × (room ≤ length (now set)) ⌝ }
+    requires { ⌜ (k ≤ 7) × (m ≤ 256) × (m ≤ length (now into)) × (n ≤ 256) × (n ≤ length (now set))
+        × (room ≤ 256) × (room ≤ length (now set)) ⌝ }
     requires list { ⌜ Low (members (now set) n) × (topsOf (members (now set) n) ≡ members (now set) n) ⌝ }
-    ensures { λ r. ⌜ Holds room (cutBy k (halfOf half) (members (now (into .entry)) m) (members (now (set .entry)) n)) (now (set .exit)) r ⌝ }
+    ensures { λ r. ⌜ Holds room (cutBy k (halfOf half) (members (now (into .entry)) m) (members (now (set .entry)) n))
+        (now (set .exit)) r ⌝ }
 {
     let mut backs = [0u64; 256];
     let led = led_back(into, m, half, k, &mut backs);
@@ -73,9 +75,11 @@ pub fn widen(
     n: usize,
     room: usize,
 ) -> Found
-    requires { ⌜ (k ≤ 7) × (m ≤ 256) × (m ≤ length (now into)) × (n ≤ 256) × (n ≤ length (now set)) × (room ≤ 256) × (room ≤ length (now set)) ⌝ }
+    requires { ⌜ (k ≤ 7) × (m ≤ 256) × (m ≤ length (now into)) × (n ≤ 256) × (n ≤ length (now set))
+        × (room ≤ 256) × (room ≤ length (now set)) ⌝ }
     requires list { ⌜ Low (members (now set) n) × (topsOf (members (now set) n) ≡ members (now set) n) ⌝ }
-    ensures { λ r. ⌜ Holds room (widenBy k (halfOf half) (members (now (into .entry)) m) (members (now (set .entry)) n)) (now (set .exit)) r ⌝ }
+    ensures { λ r. ⌜ Holds room (widenBy k (halfOf half) (members (now (into .entry)) m) (members (now (set .entry)) n))
+        (now (set .exit)) r ⌝ }
 {
     let mut backs = [0u64; 256];
     let led = led_back(into, m, half, k, &mut backs);

@@ -39,7 +39,8 @@ pub fn thin(set: &[u64], n: usize, out: &mut [u64]) -> usize
 // Those of the lesser counts of x and each of the first n that no other of them is above.
 fn row(x: u64, ys: &[u64], n: usize, out: &mut [u64]) -> usize
     requires { ⌜ (n ≤ length (now ys)) × (n ≤ length (now out)) ⌝ }
-    ensures { λ r. ⌜ (r ≤ n) × (wordsOf (now (out .exit)) r ≡ thinned (reverse (map (lesserCounts (countsIn x)) (wordsOf (now (ys .entry)) n)))) ⌝ }
+    ensures { λ r. ⌜ (r ≤ n)
+        × (wordsOf (now (out .exit)) r ≡ thinned (reverse (map (lesserCounts (countsIn x)) (wordsOf (now (ys .entry)) n)))) ⌝ }
 {
     let mut kept = 0;
     let mut j = 0;
@@ -123,8 +124,8 @@ fn keep_row(
     room: usize,
 ) -> Found
     requires { ⌜ (n ≤ length (now row)) × (kept ≤ room) × (room ≤ length (now out)) ⌝ }
-    ensures { λ r. ⌜ HoldsWords room (collected (meets (map countsIn (now (xs .entry))) (map countsIn (now (ys .entry)))) (wordsOf (now (out .entry)) kept)
-        (wordsOf (now (row .entry)) n)) (now (out .exit)) r ⌝ }
+    ensures { λ r. ⌜ HoldsWords room (collected (meets (map countsIn (now (xs .entry))) (map countsIn (now (ys .entry))))
+        (wordsOf (now (out .entry)) kept) (wordsOf (now (row .entry)) n)) (now (out .exit)) r ⌝ }
 {
     let mut number = kept;
     let mut j = 0;
@@ -181,7 +182,8 @@ fn keep_rows(
     room: usize,
 ) -> Found
     requires { ⌜ (xn ≤ length (now xs)) × (yn ≤ length (now ys)) × (yn ≤ 256) × (kept ≤ room) × (room ≤ length (now out)) ⌝ }
-    ensures { λ r. ⌜ HoldsWords room (rowsOf (wordsOf (now (xs .entry)) xn) (wordsOf (now (ys .entry)) yn) (wordsOf (now (out .entry)) kept)) (now (out .exit)) r ⌝ }
+    ensures { λ r. ⌜ HoldsWords room (rowsOf (wordsOf (now (xs .entry)) xn) (wordsOf (now (ys .entry)) yn)
+        (wordsOf (now (out .entry)) kept)) (now (out .exit)) r ⌝ }
 {
     if xn == 0 {
         return Found::Number(kept);
@@ -205,7 +207,8 @@ fn keep_rows(
 // The maximal ones of the lesser counts of all pairs of two lists. A position that the other list
 // covers is a pair itself, and its other pairs are below it: what is left to pair are the rest.
 pub fn pairs(set: &[u64], n: usize, backs: &[u64], m: usize, out: &mut [u64], room: usize) -> Found
-    requires { ⌜ (n ≤ length (now set)) × (n ≤ 256) × (m ≤ length (now backs)) × (m ≤ 256) × (room ≤ length (now out)) × (256 ≤ length (now out)) ⌝ }
+    requires { ⌜ (n ≤ length (now set)) × (n ≤ 256) × (m ≤ length (now backs)) × (m ≤ 256)
+        × (room ≤ length (now out)) × (256 ≤ length (now out)) ⌝ }
     ensures { λ r. ⌜ HoldsWords room (paired (wordsOf (now (set .entry)) n) (wordsOf (now (backs .entry)) m)) (now (out .exit)) r ⌝ }
 {
     let mut xs = [0u64; 256];

@@ -1,5 +1,5 @@
--- `covers`: the loop's invariant is that none of the first i members is above the position. A member that is above it ends the search, and so does
--- the end of the array. The measure is the number of members left. Assumes nothing.
+-- `covers`: the loop's invariant is that none of the first i members is above the position. A member that is above it ends the search, and
+-- so does the end of the array. The measure is the number of members left. Assumes nothing.
 use mathlib.Core.Path.{_≡_, refl, sym, _∙_}
 use mathlib.Core.Bool.{false}
 use mathlib.Core.List.{[]}
@@ -47,7 +47,8 @@ returns-2 c =
     let given = at .before .args in
     let i = at .loop .i in
     sym (rw (members-split (given .set .now) i (given .n) (out .before .loop-test .taken) (out .if1 .left))
-    (one-here (below (cells (given .p .now))) (members (given .set .now) i) (cells (getD (given .set .now) i [])) _ (sym (c .before .below .ensures) ∙ c .if2 .taken)))
+    (one-here (below (cells (given .p .now))) (members (given .set .now) i) (cells (getD (given .set .now) i [])) _
+    (sym (c .before .below .ensures) ∙ c .if2 .taken)))
 
 add-i : tie.Need-add-i Inv-loop μ-loop
 add-i c = search needs

@@ -1,4 +1,5 @@
--- `same`: the loop's invariant is that the first i members of both are the same. The measure is the number of members left. Assumes nothing.
+-- `same`: the loop's invariant is that the first i members of both are the same. The measure is the number of members left. Assumes
+-- nothing.
 use mathlib.Core.Path.{_≡_, refl, sym, ap, _∙_}
 use mathlib.Core.Bool.{_&&_}
 use mathlib.Core.List.{List, []}
@@ -27,7 +28,8 @@ returns : tie.Need-returns Inv-loop μ-loop
 returns c =
     let given = c .before .args in
     sym (refuted _ (λ t. c .if1 .taken
-    (sym (members-length (given .a .now) (given .an) (omega arith)) ∙ ap length (same-lists _ _ .0 t) ∙ members-length (given .b .now) (given .bn) (omega arith))))
+    (sym (members-length (given .a .now) (given .an) (omega arith)) ∙ ap length (same-lists _ _ .0 t)
+    ∙ members-length (given .b .now) (given .bn) (omega arith))))
 
 loop-holds : tie.Need-loop-holds Inv-loop μ-loop
 unfolding members
@@ -50,15 +52,15 @@ same-requires c κs = search needs
 
 returns-2 : tie.Need-returns-2 Inv-loop μ-loop
 returns-2 c =
-    let turn = c .before .before .before .before .before .before in
-    let at = turn .before in
+    let at = c .before .before .before .before .before .before .before in
     let given = at .before .before .args in
     let i = at .loop .i in
     let x = cells (getD (given .a .now) i []) in
     let y = cells (getD (given .b .now) i []) in
+    let in-a : i < given .an = omega arith in
     let in-b : i < given .bn = omega arith in
     sym (refuted _ (λ t.
-    let e : x ≡ y = sym (members-at (given .a .now) i (given .an) (turn .loop-test .taken))
+    let e : x ≡ y = sym (members-at (given .a .now) i (given .an) in-a)
     ∙ ap (λ (l : List Position). getD l i (cells [])) (same-lists _ _ .0 t) ∙ members-at (given .b .now) i (given .bn) in-b in
     clash (below x y && below y x) (both (below x y) (below y x) (rw e (below-refl y)) (rw e (below-refl y)))
     (sym (c .before .same .ensures) ∙ not-true _ (c .if2 .taken))))

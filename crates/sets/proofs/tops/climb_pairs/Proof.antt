@@ -1,5 +1,5 @@
--- `climb_pairs`: the loop's invariant is that `top` is where the position climbs to over the pairs of the first i positions. Where x is not above it, no
--- pair of x is. The measure is the number of positions left. Assumes nothing.
+-- `climb_pairs`: the loop's invariant is that `top` is where the position climbs to over the pairs of the first i positions. Where x is not
+-- above it, no pair of x is. The measure is the number of positions left. Assumes nothing.
 use mathlib.Core.Path.{_≡_, refl, sym, _∙_}
 use mathlib.Core.Logic.{⊎-elim}
 use mathlib.Core.List.{map, flatMap}

@@ -1,6 +1,6 @@
--- `climb_with`: the loop's invariant is that `top` is below x, and is where the position climbs to over the lesser counts of x and each of the first j
--- positions. A position below x is below another exactly if it is below the lesser counts of both. The measure is the number of positions left.
--- Assumes nothing.
+-- `climb_with`: the loop's invariant is that `top` is below x, and is where the position climbs to over the lesser counts of x and each of
+-- the first j positions. A position below x is below another exactly if it is below the lesser counts of both. The measure is the number of
+-- positions left. Assumes nothing.
 use mathlib.Core.Path.{_≡_, refl, sym, ap, _∙_}
 use mathlib.Core.Logic.{⊎-elim}
 use mathlib.Core.Bool.{true}
@@ -22,7 +22,8 @@ use Rattle.sets.proofs.tops.climb_with.Tie as tie
 
 abbrev Inv-loop : tie.InvT-loop
 Inv-loop p x ys top₀ j₀ top j =
-    (j ≤ length ys) × (below (countsIn top) (countsIn x) ≡ true) × (countsIn top ≡ climbed (map (lesserCounts (countsIn x)) (words ys j)) (countsIn top₀))
+    (j ≤ length ys) × (below (countsIn top) (countsIn x) ≡ true)
+    × (countsIn top ≡ climbed (map (lesserCounts (countsIn x)) (words ys j)) (countsIn top₀))
 
 abbrev μ-loop : tie.MeasureT-loop
 μ-loop p x ys top₀ j₀ top j = length ys - j

@@ -1,5 +1,5 @@
--- `keep_list`: the loop's invariant is that `out` holds what is collected from the first i positions of the list. The measure is the number of
--- positions left. Assumes nothing.
+-- `keep_list`: the loop's invariant is that `out` holds what is collected from the first i positions of the list. The measure is the number
+-- of positions left. Assumes nothing.
 use mathlib.Core.Path.{_≡_, refl, sym, _∙_}
 use mathlib.Core.List.{[]}
 use Prim.Native.Nat.{_≤_, _-_, zero-le}
@@ -92,7 +92,8 @@ loop-again-2 c =
     let p = getD all i 0 in (
       omega arith,
       rw (words-more all i (omega arith))
-          (collects-put (at .loop .inv .1) (countsIn p) (sym (called .covers .ensures) ∙ c .before .if1 .left) (omega arith) p refl (omega arith)),
+          (collects-put (at .loop .inv .1) (countsIn p) (sym (called .covers .ensures) ∙ c .before .if1 .left) (omega arith) p refl
+          (omega arith)),
     )
 
 same-length-2 : tie.Need-same-length-2 Inv-loop μ-loop

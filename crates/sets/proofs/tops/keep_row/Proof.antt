@@ -1,6 +1,6 @@
--- `keep_row`: the outer loop's invariant is that `out` holds what is collected from the first j candidates; the scan's, that whether a kept one covers
--- the candidate is whether one of the first i does, since none after them does. The measures are the numbers of candidates left and of kept ones left
--- to look at. Assumes nothing.
+-- `keep_row`: the outer loop's invariant is that `out` holds what is collected from the first j candidates; the scan's, that whether a kept
+-- one covers the candidate is whether one of the first i does, since none after them does. The measures are the numbers of candidates left
+-- and of kept ones left to look at. Assumes nothing.
 use mathlib.Core.Path.{_≡_, refl, sym, ap, _∙_}
 use mathlib.Core.Bool.{true, false}
 use mathlib.Core.List.{[], map}
@@ -123,7 +123,8 @@ returns c =
     let all = given .row .now in
     let j = outer .candidates .j in
     rw (words-split all j (given .n) (chosen .candidates-test .taken) (omega arith))
-    (collects-full (outer .candidates .inv .1) (countsIn (getD all j 0)) (scanned (c .before)) (omega arith) (words-after all j (given .n)) (c .if2 .taken))
+    (collects-full (outer .candidates .inv .1) (countsIn (getD all j 0)) (scanned (c .before)) (omega arith)
+    (words-after all j (given .n)) (c .if2 .taken))
 
 climb-pairs-requires : tie.Need-climb-pairs-requires Inv-loop μ-loop Inv-candidates μ-candidates
 climb-pairs-requires c κs = search needs
@@ -148,7 +149,8 @@ candidates-again-2 c =
     let j = outer .candidates .j in (
       omega arith,
       rw (words-more all j (omega arith))
-          (collects-put (outer .candidates .inv .1) (countsIn (getD all j 0)) (scanned left) (omega arith) (c .climb-pairs .result) (c .climb-pairs .ensures)
+          (collects-put (outer .candidates .inv .1) (countsIn (getD all j 0)) (scanned left) (omega arith) (c .climb-pairs .result)
+          (c .climb-pairs .ensures)
           (omega arith)),
     )
 

@@ -1,5 +1,6 @@
--- `keep_rows`: the loop's invariant is that the rows from the i-th on come, from those kept so far, to what all rows come to from those kept at first.
--- Where a row finds no room there is none at the end, since what the rows come to grows. The measure is the number of rows left. Assumes nothing.
+-- `keep_rows`: the loop's invariant is that the rows from the i-th on come, from those kept so far, to what all rows come to from those
+-- kept at first. Where a row finds no room there is none at the end, since what the rows come to grows. The measure is the number of rows
+-- left. Assumes nothing.
 use mathlib.Core.Path.{_≡_, refl, sym, ap, _∙_}
 use mathlib.Core.List.{List, _∷_, map}
 use Prim.Native.Nat.{ℕ, suc, _+_, _≤_, _<_, _-_, zero-le}

@@ -1,5 +1,5 @@
--- `pairs`: the steps are those of the definition: the covered ones of the one list, what those of the other add, and what the rows of the rest add. Where
--- one of them finds no room there is none at the end, since each step only adds. Assumes nothing.
+-- `pairs`: the steps are those of the definition: the covered ones of the one list, what those of the other add, and what the rows of the
+-- rest add. Where one of them finds no room there is none at the end, since each step only adds. Assumes nothing.
 use mathlib.Core.Path.{ap}
 use mathlib.Core.List.{[]}
 use native.Mathlib.Omega.{arith}

@@ -1,5 +1,6 @@
--- `part`: the loop's invariant is that `taken` holds those of the first i positions that the other list covers, and `rest` those that it does not; one
--- more position is kept by one of the two tests and dropped by the other. The measure is the number of positions left. Assumes nothing.
+-- `part`: the loop's invariant is that `taken` holds those of the first i positions that the other list covers, and `rest` those that it
+-- does not; one more position is kept by one of the two tests and dropped by the other. The measure is the number of positions left.
+-- Assumes nothing.
 use mathlib.Core.Path.{_≡_, refl, sym, ap, _∙_}
 use mathlib.Core.Logic.{⊎-elim}
 use mathlib.Core.Bool.{true, false, not}
@@ -20,7 +21,8 @@ use Rattle.sets.proofs.tops.part.Tie as tie
 abbrev Inv-loop : tie.InvT-loop
 Inv-loop set n others m taken₀ rest₀ held₀ i₀ taken rest held i =
     (i ≤ n) × (held ≤ i) × (length taken ≡ length taken₀) × (length rest ≡ length rest₀)
-    × (words taken held ≡ keep (covered (words others m)) (words set i)) × (words rest (i - held) ≡ keep (uncovered (words others m)) (words set i))
+    × (words taken held ≡ keep (covered (words others m)) (words set i))
+    × (words rest (i - held) ≡ keep (uncovered (words others m)) (words set i))
 
 abbrev μ-loop : tie.MeasureT-loop
 μ-loop set n others m taken₀ rest₀ held₀ i₀ taken rest held i = n - i

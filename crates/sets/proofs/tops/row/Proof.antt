@@ -1,5 +1,5 @@
--- `row`: the loop's invariant is that the kept ones are the thinned lesser counts of x and each of the first j positions, the last first; there are at
--- most j of them. The measure is the number of positions left. Assumes nothing.
+-- `row`: the loop's invariant is that the kept ones are the thinned lesser counts of x and each of the first j positions, the last first;
+-- there are at most j of them. The measure is the number of positions left. Assumes nothing.
 use mathlib.Core.Path.{_≡_, refl, _∙_}
 use mathlib.Core.List.{List, [], _∷_, map, reverse, map-append, reverse-append}
 use Prim.Native.Nat.{_≤_, _-_, zero-le}

@@ -1,5 +1,5 @@
--- `thin`: the loop's invariant is that the first i positions thinned onto those kept are the list thinned; each turn takes the last of them. There are
--- no more kept ones than positions passed. The measure is the number of positions left. Assumes nothing.
+-- `thin`: the loop's invariant is that the first i positions thinned onto those kept are the list thinned; each turn takes the last of
+-- them. There are no more kept ones than positions passed. The measure is the number of positions left. Assumes nothing.
 use mathlib.Core.Path.{_≡_, refl, sym, ap, _∙_}
 use mathlib.Core.List.{[], _∷_, foldr, foldr-append}
 use Prim.Native.Nat.{_+_, _≤_, _-_}

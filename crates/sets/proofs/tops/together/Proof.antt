@@ -1,5 +1,5 @@
--- `together`: the steps are those of the definition: the uncovered ones of the one list, and what the other adds. If there is no room for the first there
--- is none at the end. Assumes nothing.
+-- `together`: the steps are those of the definition: the uncovered ones of the one list, and what the other adds. If there is no room for
+-- the first there is none at the end. Assumes nothing.
 use mathlib.Core.Path.{ap}
 use mathlib.Core.List.{[]}
 use Prim.Native.Nat.{_-_}
@@ -38,7 +38,8 @@ returns c =
       arith,
       collected-grows [] left E,
       ap length {y = left} (called .part .ensures .2),
-      words-length (called .part .last .1 .1 .1 .1 .1 .0) (given .n - called .part .result) (omega (arith, called .part .kept .1 .1 .1 .1 .1 .0)),
+      words-length (called .part .last .1 .1 .1 .1 .1 .0) (given .n - called .part .result)
+          (omega (arith, called .part .kept .1 .1 .1 .1 .1 .0)),
     ))
 
 sub-keep-list : tie.Need-sub-keep-list
