@@ -134,7 +134,7 @@ module _ (K : ℕ) (t : Table) (X : Set) (small : Small t) (first : FirstSet K t
 
   module _ (win con : List ℕ) where
     pub listed-answered : answered K t (covered listed) listed (rounds K t X) win con ≡ solvedFrom K t X win con
-    unfolding answered solvedFrom
+    unfolding answered solvedFrom controllerRows
     listed-answered = λ i. record {
       answer = record {
         verdict = cond (ltb (listed-start i) (listed-length i)) (Realizable (listed-start i)) Unrealizable;

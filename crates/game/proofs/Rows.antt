@@ -9,7 +9,7 @@ use lib.ListN.{length, getD, take, drop}
 use Rattle.meaning.specs.Lists.{tab, any, place, written}
 use Rattle.meaning.specs.Table.{Table}
 use Rattle.meaning.specs.Counting.{Position, below, covered}
-use Rattle.meaning.specs.Written.{Row, covering, afterRound, outputOf, rowBytes, rowsOfState}
+use Rattle.meaning.specs.Written.{Row, covering, afterRound, outputOf, rowBytes, rowsOfState, leadsBack}
 use Rattle.meaning.proofs.Tests.{each-at, first-holds}
 use Rattle.meaning.proofs.Lists.{tab-length, any-at, at-member, place-found}
 use Rattle.meaning.proofs.Buffers.{rows-bytes}
@@ -66,7 +66,7 @@ unfolding rowsOfState
 rows-on K t ws s = refl
 
 pub next-inside : (K : ℕ) (t : Table) (ws : List Position) → Playable K t ws → (s i : ℕ) → s < length ws → i < t .inputs → nextOn K t ws s i < length ws
-unfolding outputOf covering
+unfolding outputOf leadsBack covering
 next-inside K t ws playable s i h l =
     place-inside (below (afterRound K t (outputOn K t ws s) i (getD ws s []))) ws
     (each-at (t .inputs) (λ j. covered ws (afterRound K t (outputOn K t ws s) j (getD ws s []))) (first-holds (t .outputs) _ (playable .leads s h)) i l)

@@ -1,16 +1,19 @@
 -- `solve` answers with the first check that fails. At the place after the checks 2 to 10 stands one fact: what is left to judge are 11 and 12 of the
--- one stage. The table that was read states the table of the bytes, so the rounds settle as that stage's do, and finishing them is what is left.
--- Assumes nothing.
-use mathlib.Core.Path.{_≡_, sym, _∙_}
+-- one stage. The table that was read states the table of the bytes, and the brim alone covers all safe positions of it, so the stage from the brim is
+-- what is left. Assumes nothing.
+use mathlib.Core.List.{[], _∷_}
+use mathlib.Core.Path.{_≡_, sym, _∙_, ap}
 use mathlib.Core.Bool.{false}
 use native.Mathlib.Omega.{arith}
 use borrow.Author.Needs.{needs}
 use denote.Ref.{now}
 use Rattle.meaning.specs.Rounds.{allSafe}
-use Rattle.meaning.specs.Answers.{unsolved, solvedFrom, solve}
+use Rattle.meaning.specs.Answers.{unsolved, solvedFrom, solve, staged}
 use Rattle.meaning.specs.Checks.{judge, room, tableChecks, stageChecks, Passes}
 use Rattle.meaning.proofs.Rounds.{allSafe-first}
-use Rattle.meaning.specs.Table.{stated}
+use Rattle.meaning.specs.Table.{stated, Table}
+use Rattle.meaning.specs.Written.{positionBytes}
+use Rattle.meaning.specs.Counting.{Position}
 use Rattle.table.specs.Packed.{tableIn}
 use Rattle.table.proofs.Judged.{passes-none-fails, reading-checked, reading-table}
 use Rattle.table.proofs.Good.{good-table}
@@ -20,6 +23,9 @@ use Rattle.game.proofs.InOrder.{room-within, passes-fit, settled-full, 
 use Rattle.game.proofs.Solved.{solve-bound, solve-room, solve-table, solve-stage}
 use Rattle.game.proofs.solve.Statement.{statement}
 use Rattle.game.proofs.solve.Tie as tie
+use Rattle.game.proofs.First.{brim-covered, brim-first}
+use Rattle.sets.specs.Members.{members}
+use Rattle.sets.specs.Engine.{brim}
 
 -- 3 passes
 room-passes : (c : tie.Else2) →
@@ -41,8 +47,8 @@ stage-left : (c : tie.After-enum-told) →
     let t = stated (now (given .table)) in
     let X = allSafe (given .k) (t .controllers) in
     solve (now (given .table)) (given .k) (given .room) (now (given .winners)) (now (given .controller))
-    ≡ judge (stageChecks 0 (given .k) (given .room) t X) (unsolved (now (given .winners)) (now (given .controller)))
-    (solvedFrom (given .k) t X (now (given .winners)) (now (given .controller)))
+    ≡ staged (given .k) (given .room) t X (now (given .winners)) (now (given .controller))
+unfolding staged
 stage-left c =
     let passed = c .before .before .before in
     let given = passed .before .before .before .before .before .before .args in
@@ -57,13 +63,6 @@ same-table c =
     let reading = c .before .before .check in
     good-table 0 bytes (reading .result .table)
     (reading-table bytes (reading .ensures) (c .enum-told .given .1)) (table-passes c)
-
--- its rounds settle
-stage-settles : (c : tie.After-settle-all) →
-    let given = c .before .before .before .before .before .before .before .before .before .before .before .before .args in
-    let t = stated (now (given .table)) in
-    Settles (given .k) t (allSafe (given .k) (t .controllers)) (given .room) (c .settle-all .last .1 .1 .1 .0) (c .settle-all .result)
-stage-settles c = rw (same-table (c .before .before .before)) at (c .settle-all .ensures)
 
 refused-requires : tie.Need-refused-requires
 refused-requires c κs = search needs
@@ -107,52 +106,37 @@ returns-3 c =
 enum-told : tie.Need-enum-told
 enum-told c = search needs
 
-slice-aggregate-settle-all : tie.Need-slice-aggregate-settle-all
-slice-aggregate-settle-all c = search needs
-
-settle-all-requires : tie.Need-settle-all-requires
-settle-all-requires c κs =
+-- the list of the brim alone
+brim-listed : (c : tie.After-brim) →
     let told = c .before .before in
-    let passed = told .before .before .before in
-    let given = passed .before .before .before .before .before .before .args in
-    let fit = passes-fit 0 (now (given .table)) (table-passes told) in
-    let within = room-within (given .room) (now (given .winners)) (now (given .controller)) (room-passes passed) in
-    (passed .before .before .if1 .left, within .0, within .1, within .1, rw (same-table told) (fit .small), rw (same-table told) (fit .good .some-output))
-
-enum-known-settled : tie.Need-enum-known-settled
-enum-known-settled c = search needs
-
-enum-told-2 : tie.Need-enum-told-2
-enum-told-2 c = search needs
-
-refused-requires-4 : tie.Need-refused-requires-4
-refused-requires-4 c κs = search needs
-
-returns-4 : tie.Need-returns-4
-returns-4 c =
-    let called = c .before .before .before .before in
-    let told = called .before .before .before in
     let given = told .before .before .before .before .before .before .before .before .before .args in
-    settled-full (stage-settles called) (c .before .enum-told2 .given .1) 0 (now (given .winners)) (now (given .controller)) _ (c .refused4 .ensures)
-    ∙ sym (stage-left told)
+    let t = stated (now (given .table)) in
+    members (c .brim .result ∷ []) 1 ≡ positionBytes (brim (given .k) (t .controllers)) ∷ []
+unfolding members tableIn
+brim-listed c =
+    let told = c .before .before in
+    let k = told .before .before .before .before .before .before .before .before .before .args .k in
+    ap (λ (F : Position). F ∷ []) (c .brim .ensures)
+    ∙ ap (λ (t : Table). positionBytes (brim k (t .controllers)) ∷ []) (same-table told)
 
-slice-aggregate-finish : tie.Need-slice-aggregate-finish
-slice-aggregate-finish c = search needs
+brim-requires : tie.Need-brim-requires
+brim-requires c κs = search needs
 
-finish-requires : tie.Need-finish-requires
-finish-requires c κs =
-    let settled = c .before .before .before .before in
-    let called = settled .before .before .before in
-    let told = called .before .before .before in
+slice-aggregate-stage : tie.Need-slice-aggregate-stage
+slice-aggregate-stage c = search needs
+
+stage-requires : tie.Need-stage-requires
+stage-requires c κs =
+    let begun = c .before .before .before in
+    let told = begun .before .before in
     let passed = told .before .before .before in
     let given = passed .before .before .before .before .before .before .args in
-    let t = stated (now (given .table)) in
-    let fit = passes-fit 0 (now (given .table)) (table-passes told) in
-    let within = room-within (given .room) (now (given .winners)) (now (given .controller)) (room-passes passed) in
-    let first = allSafe-first (given .k) t in (
-      omega (arith, after-settled (stage-settles called) (settled .settled .given .1) .4, within .1, called .settle-all .kept .1 .1 .1 .0),
-      rw (same-table told) (settled-playable (stage-settles called) (settled .settled .given .1) first fit (passed .before .before .if1 .left) (within .1)),
-      settled-roomy (stage-settles called) (settled .settled .given .1) first fit (now (given .winners)) (now (given .controller)) (room-passes passed),
+    let fit = passes-fit 0 (now (given .table)) (table-passes told) in (
+      (passed .before .before .if1 .left, room-passes passed, rw (same-table told) fit),
+      (
+        omega arith,
+        rw (same-table told, brim-listed begun) (brim-first (given .k) (stated (now (given .table))) (fit .small) (fit .good .some-output)),
+      ),
     )
 
 same-length : tie.Need-same-length
@@ -161,19 +145,15 @@ same-length c = search needs
 same-length-2 : tie.Need-same-length-2
 same-length-2 c = search needs
 
-returns-5 : tie.Need-returns-5
-returns-5 c =
-    let finished = c .before .before .before .before in
-    let settled = finished .before .before .before .before .before in
-    let called = settled .before .before .before in
-    let told = called .before .before .before in
-    let passed = told .before .before .before in
-    let given = passed .before .before .before .before .before .before .args in
+returns-4 : tie.Need-returns-4
+returns-4 c =
+    let called = c .before .before .before .before in
+    let begun = called .before .before .before .before in
+    let told = begun .before .before in
+    let given = told .before .before .before .before .before .before .before .before .before .args in
     let t = stated (now (given .table)) in
     let fit = passes-fit 0 (now (given .table)) (table-passes told) in
-    (rw (same-table told) at (finished .finish .ensures))
-    ∙ settled-finished (stage-settles called) (settled .settled .given .1) (allSafe-first (given .k) t) (fit .small) 0 (now (given .winners)) (now (given .controller))
-    ∙ sym (stage-left told)
+    (rw (same-table told, brim-listed begun, brim-covered (given .k) t (fit .small)) at (called .stage .ensures)) ∙ sym (stage-left told)
 
 pub solve-spec : {M : Type 1} → statement M
 solve-spec =
@@ -189,14 +169,9 @@ solve-spec =
     refused-requires-3
     returns-3
     enum-told
-    slice-aggregate-settle-all
-    settle-all-requires
-    enum-known-settled
-    enum-told-2
-    refused-requires-4
-    returns-4
-    slice-aggregate-finish
-    finish-requires
+    brim-requires
+    slice-aggregate-stage
+    stage-requires
     same-length
     same-length-2
-    returns-5)
+    returns-4)
