@@ -14,9 +14,11 @@ use Rattle.meaning.specs.declared.Refusal.the-variants.{Letters, Size}
 use Rattle.meaning.specs.Records.{Record, recordsOf, at, blank, controller, world}
 use Rattle.meaning.specs.Table.{tableOf}
 use Rattle.meaning.specs.Checks.{Check, check, judge, tableChecks, otherLetters, tooLarge, pairChecks, wrongLength}
+use Rattle.meaning.specs.Join.{joinedBytes}
 use Rattle.meaning.proofs.Tests.{neither-right}
 use Rattle.meaning.proofs.Lists.{member-at}
 use Rattle.meaning.proofs.Records.{inside-bytes}
+use Rattle.meaning.specs.Checks as N
 use Rattle.meaning.proofs.Checks as C
 use Rattle.meaning.proofs.Checks.{Failure, first-failure, judge-passes, judge-fails, judge-append}
 use Rattle.meaning.proofs.Sound.{states-top, passes-sound, passes-first, passes-second, passes-paired}
@@ -29,7 +31,7 @@ use Rattle.table.proofs.Records.{records-count}
 use Rattle.table.proofs.Judged.{byChecked, judge-checked, passes-none-fails}
 use Rattle.join.specs.declared.pair.Paired.{Paired}
 use Rattle.join.specs.declared.pair.Paired.the-variants.{Passes, Fails}
-use Rattle.join.specs.Joined.{pairedOf, joinedBytes}
+use Rattle.join.specs.Joined.{pairedOf}
 
 -- one table's checks before others
 table-then : (which : ℕ) (bytes : List ℕ) (rest : List Check)
@@ -105,10 +107,10 @@ judge-paired (c ∷ cs) refuse grant = go (c .failed) refl (judge-paired cs refu
     go false e rest = rw e rest
 
 -- where they pass, no check fails
-pub none-fails : (cs : List Check) → pairedOf cs ≡ Passes → C.Passes cs
+pub none-fails : (cs : List Check) → pairedOf cs ≡ Passes → N.Passes cs
 none-fails cs e = go (first-failure cs)
   where
-    go : C.Passes cs ⊎ Failure cs → C.Passes cs
+    go : N.Passes cs ⊎ Failure cs → N.Passes cs
     go (inl p) = p
     go (inr f) =
         let q : Fails (f .1 .refusal) (f .1 .faultAt) (f .1 .table) ≡ Passes =
@@ -146,7 +148,7 @@ joinable one two e =
     let p = none-fails (pairChecks one two) e in
     let new = joinedBytes one two in
     let ragged = eqb (length new) 0 || not (eqb (length new % 4) 0) in
-    let checked : (bytes : List ℕ) → C.Passes (tableChecks 0 bytes) → checkedOf (tableChecks 0 bytes) ≡ T.Passes =
+    let checked : (bytes : List ℕ) → N.Passes (tableChecks 0 bytes) → checkedOf (tableChecks 0 bytes) ≡ T.Passes =
     λ bytes q. judge-passes (tableChecks 0 bytes) (λ c. T.Fails (c .refusal) (c .faultAt)) T.Passes q in
     record {
       first = checked one (passes-first one two p 0);

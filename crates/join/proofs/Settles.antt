@@ -13,9 +13,8 @@ use Rattle.meaning.specs.declared.Refusal.the-variants as R
 use Rattle.meaning.specs.Table.{Table}
 use Rattle.meaning.specs.Rounds.{Set, FirstSet}
 use Rattle.meaning.specs.Written.{winners}
-use Rattle.meaning.specs.Answers.{refused, unsolved}
+use Rattle.meaning.specs.Answers.{refused, unsolved, solved}
 use Rattle.meaning.specs.Checks.{Check, judge, stageChecks}
-use Rattle.meaning.proofs.Rounds.{FirstSet}
 use Rattle.meaning.proofs.Maximal.{some-winner}
 use Rattle.game.specs.declared.rounds.Settled.{Settled}
 use Rattle.game.specs.declared.rounds.Settled.the-variants.{After}

@@ -16,12 +16,11 @@ use Rattle.meaning.specs.Counting.{Position}
 use Rattle.meaning.specs.Rounds.{Set, allSafe, winning, maximalMembers, FirstSet}
 use Rattle.meaning.specs.Written.{positionBytes, winners}
 use Rattle.meaning.specs.Join.{joined, pairs, joinedBytes, joinedTable}
-use Rattle.meaning.specs.Answers.{unsolved, solvedFrom, parts}
-use Rattle.meaning.specs.Checks.{Check, check, judge, bound, room, stageChecks, pairChecks, partsChecks, Passes}
-use Rattle.meaning.proofs.Rounds.{FirstSet, allSafe-first, winning-safe}
+use Rattle.meaning.specs.Answers.{unsolved, solvedFrom, parts, staged}
+use Rattle.meaning.specs.Checks.{Check, check, judge, bound, room, stageChecks, pairChecks, partsChecks, Passes, partsStages}
+use Rattle.meaning.proofs.Rounds.{allSafe-first, winning-safe}
 use Rattle.meaning.proofs.Records.{records-back, letters-top}
 use Rattle.meaning.proofs.Checks.{judge-append}
-use Rattle.meaning.proofs.Good.{Good}
 use Rattle.meaning.proofs.Sound.{passes-good, passes-first, passes-second, passes-paired}
 use Rattle.meaning.proofs.Union.{controllers-sum}
 use Rattle.meaning.proofs.Parts.{pairs-first}
@@ -37,7 +36,7 @@ use Rattle.sets.proofs.Engine.{stands-length, members-sized}
 use Rattle.game.specs.declared.rounds.Settled.{Settled}
 use Rattle.game.specs.declared.rounds.Settled.the-variants as S
 use Rattle.game.specs.Rounds.{coveredBy, FirstList, Settles}
-use Rattle.game.specs.Finished.{Playable}
+use Rattle.game.specs.Finished.{Playable, Fit}
 use Rattle.game.proofs.First.{passes-small, first-covered, first-list}
 use Rattle.game.proofs.Listed.{listed, listed-playable}
 use Rattle.join.specs.Beside.{allBeside}
@@ -50,21 +49,11 @@ module _ (one two : List ℕ) (K N : ℕ) (win con : List ℕ) where
   -- 2, 3, the checks of the two tables, and then the stages in turn
   pub parts-judged : parts one two K N win con
       ≡ judge (bound K ∷ room N win con ∷ []) (unsolved win con) (judge (pairChecks one two) (unsolved win con) (inTurn one two K N win con))
-  unfolding parts partsChecks inTurn lastStage
+  unfolding parts partsChecks inTurn
   parts-judged =
-      let t = stated one in
-      let u = stated two in
-      let both = joinedTable one two in
-      let X = pairs K t u in
-      let refuse = unsolved win con in
-      let grant = solvedFrom K both X win con in
-      let first = stageChecks 1 K N t (allSafe K (t .controllers)) in
-      let second = stageChecks 2 K N u (allSafe K (u .controllers)) in
-      let last = check Full 0 0 (ltb N (length (maximalMembers K (both .controllers) X))) ∷ stageChecks 0 K N both X in
-      ap (judge (bound K ∷ room N win con ∷ []) refuse)
-      (judge-append (pairChecks one two ++ first ++ second) last refuse grant
-      ∙ judge-append (pairChecks one two ++ first) second refuse (judge last refuse grant)
-      ∙ judge-append (pairChecks one two) first refuse (judge second refuse (judge last refuse grant)))
+      ap (judge (bound K ∷ room N win con ∷ []) (unsolved win con))
+      (judge-append (pairChecks one two) (partsStages one two K N) (unsolved win con)
+      (solvedFrom K (joinedTable one two) (pairs K (stated one) (stated two)) win con))
 
 module _ (one two : List ℕ) (p : Passes (pairChecks one two)) where
   -- what is read of the joined table's bytes is the joined table
@@ -74,6 +63,18 @@ module _ (one two : List ℕ) (p : Passes (pairChecks one two)) where
 
   pub joined-small : Small (joinedTable one two)
   joined-small = rw (records-back (joined (recordsOf one) (recordsOf two))) at (passes-small 0 (joinedBytes one two) (joined-passes one two p 0))
+
+  -- it may be solved
+  pub joined-fit : Fit (joinedTable one two)
+  unfolding tableOf
+  joined-fit =
+      let within = joined-sound (recordsOf one) (recordsOf two) (passes-paired one two p) .within in
+      record {
+        small = joined-small;
+        good = joined-good one two p;
+        outputs = letters-top output (joined (recordsOf one) (recordsOf two)) within;
+        inputs = letters-top input (joined (recordsOf one) (recordsOf two)) within;
+      }
 
   -- a table alone has an output
   pub first-output : 0 < stated one .outputs
@@ -96,15 +97,6 @@ module _ (one two : List ℕ) (p : Passes (pairChecks one two)) where
       pairs-list =
           first-list K (joinedTable one two) joined-small (pairs K (stated one) (stated two)) pairs-begin l stands (joined-good one two p .some-output)
 
-    -- and the rows may be written
-    pub joined-playable : K ≤ 7 → length (winners K (joinedTable one two) (pairs K (stated one) (stated two))) ≤ 256
-        → Playable K (joinedTable one two) (map positionBytes (winners K (joinedTable one two) (pairs K (stated one) (stated two))))
-    unfolding tableOf
-    joined-playable patience number =
-        let within = joined-sound (recordsOf one) (recordsOf two) (passes-paired one two p) .within in
-        listed-playable K (joinedTable one two) (pairs K (stated one) (stated two)) joined-small pairs-begin (joined-good one two p) patience
-        (letters-top output (joined (recordsOf one) (recordsOf two)) within) (letters-top input (joined (recordsOf one) (recordsOf two)) within) number
-
     -- the lists of winners alone, paired, are the list of pairs
     pub pairs-listed : (ones twos : List Position) → ones ≡ map positionBytes (winners K (stated one) (allSafe K (stated one .controllers)))
         → twos ≡ map positionBytes (winners K (stated two) (allSafe K (stated two .controllers))) → FirstPairs one two K (allBeside (stated one .controllers) ones twos)
@@ -118,38 +110,54 @@ module _ (one two : List ℕ) (p : Passes (pairChecks one two)) where
         ∙ ap (map positionBytes)
         (sym (ap (λ (n : ℕ). maximalMembers K n (pairs K t u)) (controllers-sum t u (joinedTable one two) (joined-union one two p)) ∙ pairs-members K t u))
 
--- the stages in turn, by what the rounds of each table alone answer
-module _ (one two : List ℕ) (K N : ℕ) (win con : List ℕ) (p : Passes (pairChecks one two))
-    {ones : List (List ℤ)} {first : Settled} (alone : Settles K (stated one) (allSafe K (stated one .controllers)) N ones first) where
-  pub first-full : first ≡ S.Full → inTurn one two K N win con ≡ unsolved win con (check Full 0 1 true)
-  unfolding inTurn
-  first-full e = stage-full alone 1 (unsolved win con) _ e
+-- the stages in turn: of each table alone, the first list of pairs, and the last
+module _ (one two : List ℕ) (K N : ℕ) (win con : List ℕ) where
+  abbrev crowded : List Check
+  crowded = check Full 0 0 (ltb N (length (maximalMembers K (joinedTable one two .controllers) (pairs K (stated one) (stated two))))) ∷ []
 
-  module _ {r n : ℕ} (after : first ≡ S.After r n)
-      {twos : List (List ℤ)} {second : Settled} (other : Settles K (stated two) (allSafe K (stated two .controllers)) N twos second) where
-    first-passed : inTurn one two K N win con
-        ≡ judge (stageChecks 2 K N (stated two) (allSafe K (stated two .controllers))) (unsolved win con)
-        (judge
-        (check Full 0 0 (ltb N (length (maximalMembers K (joinedTable one two .controllers) (pairs K (stated one) (stated two))))) ∷ []) (unsolved win con)
-        (lastStage one two K N win con))
-    unfolding inTurn
-    first-passed = stage-passed alone after (allSafe-first K (stated one)) (first-output one two p) 1 (unsolved win con) _
+  abbrev alone : ℕ → List ℕ → List Check
+  alone which bytes = stageChecks which K N (stated bytes) (allSafe K (stated bytes .controllers))
 
-    pub second-full : second ≡ S.Full → inTurn one two K N win con ≡ unsolved win con (check Full 0 2 true)
-    second-full e = first-passed ∙ stage-full other 2 (unsolved win con) _ e
+  stages-apart : inTurn one two K N win con
+      ≡ judge (alone 1 one) (unsolved win con)
+      (judge (alone 2 two) (unsolved win con) (judge crowded (unsolved win con) (lastStage one two K N win con)))
+  unfolding inTurn partsStages staged
+  stages-apart =
+      let refuse = unsolved win con in
+      let both = joinedTable one two in
+      let X = pairs K (stated one) (stated two) in
+      let grant = solvedFrom K both X win con in
+      let last = crowded ++ stageChecks 0 K N both X in
+      judge-append (alone 1 one ++ alone 2 two) last refuse grant
+      ∙ judge-append (alone 1 one) (alone 2 two) refuse (judge last refuse grant)
 
-    -- the first list of pairs
-    module _ {r′ n′ : ℕ} (after′ : second ≡ S.After r′ n′) (l : List Position) (stands : FirstPairs one two K l) where
-      listed-passed : inTurn one two K N win con
-          ≡ judge (check Full 0 0 (ltb N (length l)) ∷ []) (unsolved win con) (lastStage one two K N win con)
-      listed-passed =
-          first-passed
-          ∙ stage-passed other after′ (allSafe-first K (stated two)) (second-output one two p) 2 (unsolved win con) _
-          ∙ ap (λ (n : ℕ). judge (check Full 0 0 (ltb N n) ∷ []) (unsolved win con) (lastStage one two K N win con))
-          (sym (stands-length K (joinedTable one two .controllers) (pairs K (stated one) (stated two)) l stands))
+  -- by what the rounds of each table alone answer
+  module _ (p : Passes (pairChecks one two))
+      {ones : List (List ℤ)} {first : Settled} (settles : Settles K (stated one) (allSafe K (stated one .controllers)) N ones first) where
+    pub first-full : first ≡ S.Full → inTurn one two K N win con ≡ unsolved win con (check Full 0 1 true)
+    first-full e = stages-apart ∙ stage-full settles 1 (unsolved win con) _ e
 
-      pub pairs-full : N < length l → inTurn one two K N win con ≡ unsolved win con (check Full 0 0 true)
-      pairs-full h = listed-passed ∙ rw (lt-ltb N (length l) h)
+    module _ {r n : ℕ} (after : first ≡ S.After r n)
+        {twos : List (List ℤ)} {second : Settled} (other : Settles K (stated two) (allSafe K (stated two .controllers)) N twos second) where
+      first-passed : inTurn one two K N win con
+          ≡ judge (alone 2 two) (unsolved win con) (judge crowded (unsolved win con) (lastStage one two K N win con))
+      first-passed = stages-apart ∙ stage-passed settles after (allSafe-first K (stated one)) (first-output one two p) 1 (unsolved win con) _
 
-      pub pairs-passed : length l ≤ N → inTurn one two K N win con ≡ lastStage one two K N win con
-      pairs-passed h = listed-passed ∙ rw (le-ltb N (length l) h)
+      pub second-full : second ≡ S.Full → inTurn one two K N win con ≡ unsolved win con (check Full 0 2 true)
+      second-full e = first-passed ∙ stage-full other 2 (unsolved win con) _ e
+
+      -- the first list of pairs
+      module _ {r′ n′ : ℕ} (after′ : second ≡ S.After r′ n′) (l : List Position) (stands : FirstPairs one two K l) where
+        listed-passed : inTurn one two K N win con
+            ≡ judge (check Full 0 0 (ltb N (length l)) ∷ []) (unsolved win con) (lastStage one two K N win con)
+        listed-passed =
+            first-passed
+            ∙ stage-passed other after′ (allSafe-first K (stated two)) (second-output one two p) 2 (unsolved win con) _
+            ∙ ap (λ (n : ℕ). judge (check Full 0 0 (ltb N n) ∷ []) (unsolved win con) (lastStage one two K N win con))
+            (sym (stands-length K (joinedTable one two .controllers) (pairs K (stated one) (stated two)) l stands))
+
+        pub pairs-full : N < length l → inTurn one two K N win con ≡ unsolved win con (check Full 0 0 true)
+        pairs-full h = listed-passed ∙ rw (lt-ltb N (length l) h)
+
+        pub pairs-passed : length l ≤ N → inTurn one two K N win con ≡ lastStage one two K N win con
+        pairs-passed h = listed-passed ∙ rw (le-ltb N (length l) h)

@@ -14,10 +14,6 @@ use Rattle.join.specs.declared.pair.Paired.the-variants.{Passes, Fails}
 abbrev pub pairedOf : List Check → Paired
 pairedOf cs = judge cs (λ c. Fails (c .refusal) (c .faultAt) (c .table)) Passes
 
--- the bytes of the joined table
-abbrev pub joinedBytes : List ℕ → List ℕ → List ℕ
-joinedBytes one two = bytesOf (joined (recordsOf one) (recordsOf two))
-
 -- the bytes of the records of one kind, controllers renumbered upward by n and worlds by m
 abbrev pub movedBytes : ℕ → ℕ → ℕ → List Record → List ℕ
 movedBytes n m kind rs = bytesOf (map (renumber n m) (ofKind kind rs))

@@ -8,13 +8,13 @@ ghost use Prim.Native.Nat.{_+_, _≤_};
 ghost use lib.ListN.{length};
 ghost use Rattle.meaning.specs.Lists.{written};
 ghost use Rattle.meaning.specs.Records.{recordsOf, bytesOf};
-ghost use Rattle.meaning.specs.Join.{renumber as renumbered, upward as movedUpward};
+ghost use Rattle.meaning.specs.Join.{renumber as renumbered, upward as movedUpward, joinedBytes};
 ghost use Rattle.meaning.specs.Checks.{tableChecks, pairChecks};
 ghost use Rattle.table.specs.declared.Checked.{Checked};
 ghost use Rattle.table.specs.Packed.{recordIn};
 ghost use Rattle.table.specs.Checked.{checkedOf};
 ghost use Rattle.join.specs.declared.pair.Paired.{Paired};
-ghost use Rattle.join.specs.Joined.{pairedOf, joinedBytes, movedBytes, Stored};
+ghost use Rattle.join.specs.Joined.{pairedOf, movedBytes, Stored};
 
 // How far the states of each side are renumbered upward.
 struct Sides {

@@ -11,13 +11,12 @@ use meaning::Answer;
 use meaning::Refusal;
 use meaning::Verdict;
 ghost use mathlib.Core.Path.{_≡_};
-ghost use Rattle.meaning.specs.Answers.{join as joinOf, parts as partsOf};
+ghost use Rattle.meaning.specs.Answers.{join as joinOf, parts as partsOf, joinedAs, solved};
 
 // Writes the joined table, and answers 0 with the number of bytes as its place; or the first of
 // checks 3, 4 to 10 of the first table, 4 to 10 of the second, 13 and 14 that fails.
 pub fn join(first: &[u8], second: &[u8], out: &mut [u8]) -> Answer
-    ensures answer { λ r. ⌜ r ≡ joinOf (now (first .entry)) (now (second .entry)) (now (out .entry)) .answer ⌝ }
-    ensures bytes { λ r. ⌜ now (out .exit) ≡ joinOf (now (first .entry)) (now (second .entry)) (now (out .entry)) .outAfter ⌝ }
+    ensures { λ r. ⌜ joinedAs r (now (out .exit)) ≡ joinOf (now (first .entry)) (now (second .entry)) (now (out .entry)) ⌝ }
 {
     if out.len() < 4160 {
         return finish::refused(Refusal::Room, 0, 0);

@@ -5,6 +5,7 @@ use crate::joined;
 use game::finish;
 use game::rounds;
 use game::rounds::Settled;
+use game::stage;
 use meaning::Answer;
 use meaning::Refusal;
 use sets::tops::Found;
@@ -19,6 +20,7 @@ ghost use Rattle.meaning.specs.Records.{recordsOf};
 ghost use Rattle.meaning.specs.Table.{tableOf};
 ghost use Rattle.meaning.specs.Rounds.{allSafe};
 ghost use Rattle.meaning.specs.Checks.{room as roomFor, tableChecks, pairChecks};
+ghost use Rattle.meaning.specs.Answers.{solved};
 ghost use Rattle.table.specs.declared.Checked.{Checked};
 ghost use Rattle.table.specs.Packed.{tableIn};
 ghost use Rattle.table.specs.Checked.{checkedOf};
@@ -55,12 +57,7 @@ fn last(
     let mut bytes = [0u8; 4160];
     let size = joined::write(first, second, &mut bytes);
     let table = read::read(&bytes[..size]);
-    let mut left = [[-1i8; 8]; 256];
-    let settled = rounds::settle(table, k, room, list, n, &mut left);
-    let Settled::After(rounds, number) = settled else {
-        return finish::refused(Refusal::Full, 0, 0);
-    };
-    finish::finish(table, k, &left, number, rounds, winners, controller)
+    stage::stage(table, k, room, list, n, winners, controller)
 }
 
 // The three stages of two tables that pass: each alone, and the joined one from the first list of

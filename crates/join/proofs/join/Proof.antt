@@ -1,6 +1,6 @@
 -- `join` answers as the meaning does: with too little room it refuses; else it goes by what the checks of the two tables come to, and writes
 -- only where they pass. Assumes nothing.
-use mathlib.Core.Path.{_≡_, refl, sym, _∙_}
+use mathlib.Core.Path.{_≡_, sym, ap, _∙_}
 use mathlib.Core.Bool.{true}
 use mathlib.Core.List.{List}
 use Prim.Native.Nat.{ℕ, _≤_, _<_}
@@ -8,11 +8,13 @@ use borrow.Author.Needs.{needs}
 use borrow.Author.Tests.{lt-ltb, le-ltb}
 use denote.Ref.{now}
 use lib.ListN.{length}
+use Rattle.meaning.specs.declared.Answer.{Answer}
+use Rattle.meaning.specs.Join.{joinedBytes}
 use Rattle.meaning.specs.declared.Refusal.the-variants.{Room}
-use Rattle.meaning.specs.Answers.{join, unjoined, joinedInto}
+use Rattle.meaning.specs.Answers.{join, joinedAs, unjoined, joinedInto}
 use Rattle.meaning.specs.Checks.{check, roomToJoin, pairChecks, joinChecks}
 use Rattle.join.specs.declared.pair.Paired.{Paired}
-use Rattle.join.specs.Joined.{pairedOf, joinedBytes}
+use Rattle.join.specs.Joined.{pairedOf}
 use Rattle.join.proofs.Paired.{byPaired, judge-paired}
 use Rattle.join.proofs.join.Statement.{statement}
 use Rattle.join.proofs.join.Tie as tie
@@ -33,7 +35,8 @@ refused-requires c κs = search needs
 returns : tie.Need-returns
 returns c =
     let args = c .before .before .before .before .before .args in
-    rw (cramped (now (args .first)) (now (args .second)) (now (args .out)) (c .before .if1 .taken)) (c .refused .ensures, refl)
+    rw (cramped (now (args .first)) (now (args .second)) (now (args .out)) (c .before .if1 .taken))
+    (ap (λ (a : Answer). joinedAs a (now (args .out))) (c .refused .ensures))
 
 pair-requires : tie.Need-pair-requires
 pair-requires c κs = search needs
@@ -58,7 +61,8 @@ returns-2 c =
     let call = told .before .before in
     let args = call .before .before .before .before .before .args in
     let fails = sym (told .refusal .given .1) ∙ call .pair .ensures in
-    rw (roomy (now (args .first)) (now (args .second)) (now (args .out)) (call .before .if1 .left) _ fails) (c .refused2 .ensures, refl)
+    rw (roomy (now (args .first)) (now (args .second)) (now (args .out)) (call .before .if1 .left) _ fails)
+    (ap (λ (a : Answer). joinedAs a (now (args .out))) (c .refused2 .ensures))
 
 same-length : tie.Need-same-length
 same-length c = search needs
@@ -71,7 +75,7 @@ returns-3 c =
     let args = call .before .before .before .before .before .args in
     let passes = sym (told .enum-told .given .1) ∙ call .pair .ensures in
     rw (roomy (now (args .first)) (now (args .second)) (now (args .out)) (call .before .if1 .left) _ passes, write .write .ensures .0)
-    (refl, write .write .ensures .1)
+    (ap (joinedAs _) (write .write .ensures .1))
 
 pub join-spec : {M : Type 1} → statement M
 join-spec =

@@ -8,8 +8,9 @@ use borrow.Author.Needs.{needs}
 use denote.Ref.{now}
 use lib.ListN.{length}
 use Rattle.meaning.specs.Records.{recordsOf, bytesOf}
+use Rattle.meaning.specs.Join.{joinedBytes}
 use Rattle.meaning.proofs.Records.{Kind, kind-of}
-use Rattle.join.specs.Joined.{joinedBytes, movedBytes, Stored}
+use Rattle.join.specs.Joined.{movedBytes, Stored}
 use Rattle.join.proofs.Paired.{few-states, joinable}
 use Rattle.join.proofs.Appended.{sets-written, stored-none, stored-more, stored-length, joinedBefore, joined-more, joined-room, joined-all}
 use Rattle.join.proofs.joined.write.Statement.{statement}
