@@ -73,7 +73,7 @@ stage-requires c κs =
     let one = now (start .args .first) in
     let two = now (start .args .second) in
     let list = members (now (start .args .list)) (start .args .n) in
-    rw (table-read (c .before)) (
+    rw (table-read (c .before .before)) (
       (start .pre .0 .0, start .pre .0 .1, joined-fit one two (passes start)),
       (start .pre .1 .0, pairs-list one two (passes start) (start .args .k) list (start .pre .1 .1)),
     )
@@ -87,11 +87,11 @@ same-length-2 c = search needs
 returns : tie.Need-returns
 returns c =
     let call = c .before .before .before .before in
-    let start = call .before .before .before .before .before .before .before .before .before .before .before in
+    let start = call .before .before .before .before .before .before .before .before .before .before .before .before in
     let one = now (start .args .first) in
     let two = now (start .args .second) in
     let list = members (now (start .args .list)) (start .args .n) in
-    rw (table-read (call .before), pairs-covered one two (passes start) (start .args .k) list (start .pre .1 .1)) at (call .stage .ensures)
+    rw (table-read (call .before .before .before), pairs-covered one two (passes start) (start .args .k) list (start .pre .1 .1)) at (call .stage .ensures)
 
 pub last-spec : {M : Type 1} → statement M
 last-spec =
