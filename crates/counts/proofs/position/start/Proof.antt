@@ -1,5 +1,5 @@
--- `start`: the loop's invariant is that `out` holds the start position's counts at the states before q. A turn stores 0 at a start state of the
--- side, and leaves -1 elsewhere. The measure is the number of states left. Assumes nothing.
+-- `start`: the loop's invariant is that `out` holds the start position's counts at the states before q. A turn stores 0 at a start state
+-- of the side, and leaves -1 elsewhere. The measure is the number of states left. Assumes nothing.
 use mathlib.Core.Path.{_≡_, sym, _∙_}
 use mathlib.Core.Bool.{cond}
 use mathlib.Core.Logic.{⊎-elim}

@@ -1,5 +1,5 @@
--- `lesser`: the flags spread over their bytes choose each byte from the word whose count is the lesser; and the spread flags fit, since there are
--- at most eight. Assumes nothing.
+-- `lesser`: the flags spread over their bytes choose each byte from the word whose count is the lesser; and the spread flags fit, since
+-- there are at most eight. Assumes nothing.
 use native.Mathlib.Omega.{arith}
 use borrow.Author.Needs.{needs}
 use lib.Bits.{and-le-l}
