@@ -14,7 +14,7 @@ mul-mask : tie.Need-mul-mask
 mul-mask c = record { fits = omega (arith, c .at-most .ensures, flags-le 8 (c .before .args .a) (c .before .args .b)) }
 
 sub-result : tie.Need-sub-result
-sub-result c = and-le-l (c .before .args .b) _
+sub-result c = and-le-l _ _
 
 returns : tie.Need-returns
 returns c = rw (c .at-most .ensures) (lesser-words (c .before .args .a) (c .before .args .b))
