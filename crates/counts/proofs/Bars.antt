@@ -1,6 +1,6 @@
 -- The bars of a step back. The or of two words has the or of their counts (`or-counts`), by induction on the bytes. So a bar, or'ed with a
--- word that has one count in every byte, leaves that count to the sources with an edge and the highest to the others; and the least of these
--- over the targets is the step back under the most (`lowered-whole`), count by count. Assumes nothing.
+-- word that has one count in every byte, leaves that count to the sources with an edge and the highest to the others; and the least of
+-- these over the targets is the step back under the most (`lowered-whole`), count by count. Assumes nothing.
 use mathlib.Core.Path.{_≡_, refl, sym, ap, _∙_}
 use mathlib.Core.Bool.{Bool, true, false, cond}
 use mathlib.Core.List.{List, [], _∷_}
@@ -73,13 +73,15 @@ packed-all : (e n : ℕ) → e ≤ 127 → n ≤ 8 → Packed (tab 8 (λ _. e)) 
 packed-all e zero h l = packed-none (tab 8 (λ _. e))
 packed-all e (suc n) h l =
     let F = tab 8 (λ _. e) in
-    rw (add-one n) at (packed-next F n (bytes n e) (packed-all e n h (omega arith)) e refl (omega arith) h (tab-at 8 (λ _. e) n 0 (omega arith)))
+    let here : count F n ≡ e = tab-at 8 (λ _. e) n 0 (omega arith) in
+    rw (add-one n) at (packed-next F n (bytes n e) (packed-all e n h (omega arith)) e refl (omega arith) h here)
 
 all-counts : (e p : ℕ) → e ≤ 127 → p < 8 → count (countsIn (e * ones)) p ≡ e
 all-counts e p h l =
     let spread : e * ones ≡ bytes 8 e = omega arith in
     let F = tab 8 (λ _. e) in
-    ap (λ (w : ℕ). count (countsIn w) p) spread ∙ ap (λ (G : Position). count G p) (packed-whole F 8 (bytes 8 e) (packed-all e 8 h (le-refl 8)) refl (le-refl 8))
+    let whole : countsIn (bytes 8 e) ≡ F = packed-whole F 8 (bytes 8 e) (packed-all e 8 h (le-refl 8)) refl (le-refl 8) in
+    ap (λ (w : ℕ). count (countsIn w) p) spread ∙ ap (λ (G : Position). count G p) whole
     ∙ tab-at 8 (λ _. e) p 0 l
 
 -- the highest count takes in every other, and no count none
@@ -115,13 +117,16 @@ Lowered half m most q low =
 
 module _ (half : Half) (m : List ℤ) (most q low : ℕ) (before : Lowered half m most q low) where
   -- one more target, by its bar and its count in every byte
-  pub lowered-by : (word e r : ℕ) → q < half .targets → countsIn word ≡ barCounts (half .masks) q → e ≡ min (cell m q - getD (half .marks) q 0) 127
+  pub lowered-by : (word e r : ℕ) → q < half .targets → countsIn word ≡ barCounts (half .masks) q
+      → e ≡ min (cell m q - getD (half .marks) q 0) 127
       → countsIn r ≡ lesserCounts (countsIn low) (countsIn (bitOr word (e * ones))) → Lowered half m most (q + 1) r
   lowered-by word e r inside bar count-is lesser p l =
       let top = count (countsIn most) p in
       let all = bitOr word (e * ones) in
-      ap (λ (F : Position). count F p) lesser ∙ lesser-at (countsIn low) (countsIn all) p ∙ rw (before p l, offered-counts half m word e p q bar count-is l)
-      (sym (smallest-next top (within (half .targets) top (offered half m p)) q (offered half m p q) (rw (lt-ltb q (half .targets) inside))))
+      let least = within (half .targets) top (offered half m p) in
+      ap (λ (F : Position). count F p) lesser ∙ lesser-at (countsIn low) (countsIn all) p
+      ∙ rw (before p l, offered-counts half m word e p q bar count-is l)
+      (sym (smallest-next top least q (offered half m p q) (rw (lt-ltb q (half .targets) inside))))
 
   -- beyond the side there is none
   pub lowered-still : half .targets ≤ q → Lowered half m most (q + 1) low

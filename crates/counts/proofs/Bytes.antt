@@ -1,5 +1,6 @@
--- Positions in words: what the word's operations do to each byte, and so to each count. A number is its last byte and the rest, and the bit
--- operations work on the two apart; so each law goes by induction on the number of bytes, over any counts that come after them. Assumes nothing.
+-- Positions in words: what the word's operations do to each byte, and so to each count. A number is its last byte and the rest, and the
+-- bit operations work on the two apart; so each law goes by induction on the number of bytes, over any counts that come after them.
+-- Assumes nothing.
 use mathlib.Core.Path.{_≡_, refl, sym, ap, ap₂, _∙_}
 use mathlib.Core.Logic.{⊎-elim}
 use mathlib.Core.Bool.{Bool, true, false, cond, _&&_, _||_, and-true, and-false, and-assoc, or-false}
@@ -122,7 +123,8 @@ below-first : (x y : ℕ) (F G : Position) → below (x ∷ F) (y ∷ G) ≡ (le
 below-first x y F G =
     same-test (below (x ∷ F) (y ∷ G)) (leb x y && below F G)
     (λ t. both (leb x y) (below F G) (le-leb x y (below-at (x ∷ F) (y ∷ G) t 0)) (below-of F G (λ q _. below-at (x ∷ F) (y ∷ G) t (suc q))))
-    (λ t. below-of (x ∷ F) (y ∷ G) (each-count (leb-true x y (both-left (leb x y) (below F G) t)) (below-at F G (both-right (leb x y) (below F G) t))))
+    (λ t. below-of (x ∷ F) (y ∷ G)
+    (each-count (leb-true x y (both-left (leb x y) (below F G) t)) (below-at F G (both-right (leb x y) (below F G) t))))
   where
     each-count : x ≤ y → ((q : ℕ) → count F q ≤ count G q) → (q : ℕ) → q < length (x ∷ F) → count (x ∷ F) q ≤ count (y ∷ G) q
     each-count first rest zero l = first
@@ -136,7 +138,8 @@ all-set true f m =
     (λ e. eq-eqb (f * 256 + 128) (m * 256 + 128) (omega (arith, eqb-true f m (both-left (eqb f m) true e))))
 all-set false f m = ne-eqb (f * 256 + 0) (m * 256 + 128) (λ e. omega arith) ∙ sym (and-false (eqb f m))
 
-below-flags : (n a b : ℕ) (r s : Position) → (eqb (flags n a b) (bytes n 128) && below r s) ≡ below (countsBefore n a r) (countsBefore n b s)
+below-flags : (n a b : ℕ) (r s : Position)
+    → (eqb (flags n a b) (bytes n 128) && below r s) ≡ below (countsBefore n a r) (countsBefore n b s)
 unfolding flags countsBefore
 below-flags zero a b r s = refl
 below-flags (suc n) a b r s =
@@ -159,7 +162,8 @@ flags-whole : (n a b : ℕ) → flags n a b / 128 * 128 ≡ flags n a b
 unfolding flags
 flags-whole zero a b = refl
 flags-whole (suc n) a b =
-    cond-cases (leb (a % 128) (b % 128)) 128 0 (λ z. (flags n (a / 256) (b / 256) * 256 + z) / 128 * 128 ≡ flags n (a / 256) (b / 256) * 256 + z)
+    let rest = flags n (a / 256) (b / 256) in
+    cond-cases (leb (a % 128) (b % 128)) 128 0 (λ z. (rest * 256 + z) / 128 * 128 ≡ rest * 256 + z)
     (λ _. omega arith) (λ _. omega arith)
 
 spread-next : (n a b : ℕ) → spread (suc n) a b ≡ spread n (a / 256) (b / 256) * 256 + cond (leb (a % 128) (b % 128)) 255 0
@@ -175,7 +179,8 @@ abbrev pub chosen : ℕ → ℕ → ℕ → ℕ
 chosen mask a b = bitOr (bitAnd a mask) (b - bitAnd b mask)
 
 -- byte by byte
-chosen-byte : (mask c a b : ℕ) → c < 256 → chosen (mask * 256 + c) a b ≡ chosen mask (a / 256) (b / 256) * 256 + chosen c (a % 256) (b % 256)
+chosen-byte : (mask c a b : ℕ) → c < 256
+    → chosen (mask * 256 + c) a b ≡ chosen mask (a / 256) (b / 256) * 256 + chosen c (a % 256) (b % 256)
 chosen-byte mask c a b h =
     let kept : b - bitAnd b (mask * 256 + c) ≡ (b / 256 - bitAnd (b / 256) mask) * 256 + (b % 256 - bitAnd (b % 256) c)
     = omega (arith, and-byte b mask c h, and-le-l (b / 256) mask, and-le-l (b % 256) c) in
@@ -189,7 +194,8 @@ lesserByte a b = chosen (cond (leb (a % 128) (b % 128)) 255 0) (a % 256) (b % 25
 
 lesser-byte : (a b : ℕ) → (lesserByte a b < 256) × (lesserByte a b % 128 ≡ min (a % 128) (b % 128))
 lesser-byte a b =
-    cond-cases (leb (a % 128) (b % 128)) 255 0 (λ c. (chosen c (a % 256) (b % 256) < 256) × (chosen c (a % 256) (b % 256) % 128 ≡ min (a % 128) (b % 128)))
+    cond-cases (leb (a % 128) (b % 128)) 255 0
+    (λ c. (chosen c (a % 256) (b % 256) < 256) × (chosen c (a % 256) (b % 256) % 128 ≡ min (a % 128) (b % 128)))
     (λ t. let l : a % 128 ≤ b % 128 = leb-true (a % 128) (b % 128) t in
     let e : bitAnd (a % 256) 255 ≡ a % 256 = and-mask (a % 256) 8 ∙ omega arith in
     let f : b % 256 - bitAnd (b % 256) 255 ≡ 0 = omega (arith, and-mask (b % 256) 8) in
@@ -242,16 +248,19 @@ before-counts : (n a b : ℕ) (r s : Position)
 unfolding countsBefore before
 before-counts zero a b r s = rw (and-zero-r a, and-zero-r b)
 before-counts (suc n) a b r s =
+    let high-a = bitAnd (a / 256) (bytes n 127) in
+    let high-b = bitAnd (b / 256) (bytes n 127) in
     rw (and-counts n a, and-counts n b)
-    (higher-first (bitAnd (a / 256) (bytes n 127)) (bitAnd (b / 256) (bytes n 127)) (a % 128) (b % 128) (before r s) (omega arith) (omega arith)
+    (higher-first high-a high-b (a % 128) (b % 128) (before r s) (omega arith) (omega arith)
     ∙ before-counts n (a / 256) (b / 256) (a % 128 ∷ r) (b % 128 ∷ s))
 
 -- the words' counts alone are in the order of the positions
 pub before-words : (a b : ℕ) → ltb (bitAnd a (bytes 8 127)) (bitAnd b (bytes 8 127)) ≡ before (countsIn a) (countsIn b)
 unfolding countsIn before
 before-words a b =
-    sym (ap (λ t. ltb (bitAnd a (bytes 8 127)) (bitAnd b (bytes 8 127)) || t) (and-false (eqb (bitAnd a (bytes 8 127)) (bitAnd b (bytes 8 127))))
-    ∙ or-false (ltb (bitAnd a (bytes 8 127)) (bitAnd b (bytes 8 127))))
+    let x = bitAnd a (bytes 8 127) in
+    let y = bitAnd b (bytes 8 127) in
+    sym (ap (λ t. ltb x y || t) (and-false (eqb x y)) ∙ or-false (ltb x y))
     ∙ before-counts 8 a b [] []
 
 -- a word that the first q counts of a position are packed in
@@ -267,7 +276,9 @@ packed-none F = record { few = zero-le; low = omega arith; counts = refl }
 module _ (F : Position) (q word : ℕ) (packed : Packed F q word) where
   -- there is room for one byte more
   pub packed-room : (c : ℕ) → q < 8 → c < 256 → word * 256 + c < 2 ^ 64
-  packed-room c l h = let room : 256 ^ q ≤ 256 ^ 7 = pow-le-pow-right (omega arith) {i = q} {j = 7} (omega arith) in omega (arith, packed .low)
+  packed-room c l h =
+      let room : 256 ^ q ≤ 256 ^ 7 = pow-le-pow-right (omega arith) {i = q} {j = 7} (omega arith) in
+      omega (arith, packed .low)
 
   pub packed-next : (c : ℕ) → length F ≡ 8 → q < 8 → c ≤ 127 → count F q ≡ c → Packed F (q + 1) (word * 256 + c)
   packed-next c long l h e =
@@ -297,7 +308,12 @@ cells-after m q c =
     same-counts (drop (suc q) (cells (set m q c))) (drop (suc q) (cells m))
     (long ∙ sym (length-drop (suc q) (cells m) ∙ ap (λ n. n - suc q) (cells-length m)))
     (λ i l. let inside : suc q + i < 8 = omega arith in
-    rw (getD-drop (suc q) (cells (set m q c)) i 0, getD-drop (suc q) (cells m) i 0, cells-at (set m q c) (suc q + i) inside, cells-at m (suc q + i) inside)
+    rw (
+      getD-drop (suc q) (cells (set m q c)) i 0,
+      getD-drop (suc q) (cells m) i 0,
+      cells-at (set m q c) (suc q + i) inside,
+      cells-at m (suc q + i) inside,
+    )
     (ap oneHigher (getD-set-other m q (suc q + i) c (pos 0) (λ e. omega arith))))
 
 -- one count taken out of a word, and put before those that follow it
@@ -307,4 +323,5 @@ unfolding countsBefore
 unpacked-next out q left c long l e =
     ap (countsBefore q (left / 256))
     (drop-cons (cells (set out q c)) q 0 (omega (arith, cells-length (set out q c)))
-    ∙ ap₂ (λ d r. d ∷ r) (cells-at (set out q c) q l ∙ ap oneHigher (getD-set-same out q c (pos 0) (omega arith)) ∙ e) (cells-after out q c))
+    ∙ ap₂ (λ d r. d ∷ r)
+    (cells-at (set out q c) q l ∙ ap oneHigher (getD-set-same out q c (pos 0) (omega arith)) ∙ e) (cells-after out q c))

@@ -1,5 +1,5 @@
--- Eight signed counts as a position. `cells` is a tab of eight, so that its counts are known below 8 and are 0 from there on; and an array that
--- is filled state by state (`Filled`) is such a tab once it is whole. Assumes nothing.
+-- Eight signed counts as a position. `cells` is a tab of eight, so that its counts are known below 8 and are 0 from there on; and an array
+-- that is filled state by state (`Filled`) is such a tab once it is whole. Assumes nothing.
 use mathlib.Core.Path.{_≡_, refl, sym, ap, _∙_}
 use mathlib.Core.Bool.{true, _&&_}
 use mathlib.Core.List.{List}
@@ -35,7 +35,8 @@ below-cells a b = refl
 -- two arrays, each below the other, stand for one position
 pub same-cells : (a b : List ℤ) → (below (cells a) (cells b) && below (cells b) (cells a)) ≡ true → cells a ≡ cells b
 same-cells a b t =
-    below-antisym (cells a) (cells b) (cells-length a ∙ sym (cells-length b)) (both-left (below (cells a) (cells b)) (below (cells b) (cells a)) t)
+    below-antisym (cells a) (cells b) (cells-length a ∙ sym (cells-length b))
+    (both-left (below (cells a) (cells b)) (below (cells b) (cells a)) t)
     (both-right (below (cells a) (cells b)) (below (cells b) (cells a)) t)
 
 -- an array of counts that holds f at the states before q, and -1 from there on
@@ -47,7 +48,11 @@ pub record Filled (f : ℕ → ℕ) (q : ℕ) (m : List ℤ) : Type 0 where
 module _ (f : ℕ → ℕ) where
   pub filled-none : Filled f 0 (replicate 8 (negsuc 0))
   filled-none =
-      record { long = refl; done = below-none (λ p. cell (replicate 8 (negsuc 0)) p ≡ f p); rest = λ p _ l. ap oneHigher (getD-replicate 8 p (negsuc 0) (pos 0) l) }
+      record {
+        long = refl;
+        done = below-none (λ p. cell (replicate 8 (negsuc 0)) p ≡ f p);
+        rest = λ p _ l. ap oneHigher (getD-replicate 8 p (negsuc 0) (pos 0) l);
+      }
 
   module _ (q : ℕ) (m : List ℤ) (before : Filled f q m) (l : q < 8) where
     pub filled-store : (c : ℤ) → oneHigher c ≡ f q → Filled f (q + 1) (set m q c)
@@ -55,7 +60,8 @@ module _ (f : ℕ → ℕ) where
         record {
           long = simp length-set (before .long);
           done =
-              below-more (λ p. cell (set m q c) p ≡ f p) q (λ p b. rw (getD-set-other m q p c (pos 0) (λ s. omega arith)) (before .done p b))
+              below-more (λ p. cell (set m q c) p ≡ f p) q
+              (λ p b. rw (getD-set-other m q p c (pos 0) (λ s. omega arith)) (before .done p b))
               (ap oneHigher (getD-set-same m q c (pos 0) (omega (arith, before .long))) ∙ e);
           rest = λ p a b. rw (getD-set-other m q p c (pos 0) (λ s. omega arith)) (before .rest p (omega arith) b);
         }

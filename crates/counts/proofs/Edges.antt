@@ -1,5 +1,5 @@
--- The edges that masks state. The code's test of a bit is the definition's; from 8 on there is no bit and no mask. So the largest and the smallest
--- over a side's states are those over the eight states of an array, whatever the side's size. Assumes nothing.
+-- The edges that masks state. The code's test of a bit is the definition's; from 8 on there is no bit and no mask. So the largest and the
+-- smallest over a side's states are those over the eight states of an array, whatever the side's size. Assumes nothing.
 use mathlib.Core.Path.{_≡_}
 use mathlib.Core.Bool.{false, cond, and-false}
 use mathlib.Core.List.{List}
@@ -61,7 +61,8 @@ module _ (e n : ℕ) (f : ℕ → ℕ) where
       le-antisymm
       (smallest-of top n f (smallest top e (within n top f)) (smallest-top top e (within n top f)) (λ i l. go i l (decLt i e)))
       (smallest-of top e (within n top f) (smallest top n f) (smallest-top top n f)
-      (λ i _. over-edge (ltb i n) (f i) top (λ c. smallest top n f ≤ c) (λ t. smallest-at top n f i (ltb-true i n t)) (λ _. smallest-top top n f)))
+      (λ i _. over-edge (ltb i n) (f i) top (λ c. smallest top n f ≤ c)
+      (λ t. smallest-at top n f i (ltb-true i n t)) (λ _. smallest-top top n f)))
     where
       go : (i : ℕ) → i < n → Dec (i < e) → smallest top e (within n top f) ≤ f i
       go i l (yes b) = rw (lt-ltb i n l) at (smallest-at top e (within n top f) i b)

@@ -1,5 +1,5 @@
--- The step forward over arrays. What the masks' edges bring to a state is the count that the definition's step of the eight counts has there:
--- counts within an array are read alike on both sides, and no edge comes from or leads to a state from 8 on. Assumes nothing.
+-- The step forward over arrays. What the masks' edges bring to a state is the count that the definition's step of the eight counts has
+-- there: counts within an array are read alike on both sides, and no edge comes from or leads to a state from 8 on. Assumes nothing.
 use mathlib.Core.Path.{_≡_, sym, _∙_}
 use mathlib.Core.Bool.{cond}
 use mathlib.Core.List.{List}
@@ -13,14 +13,10 @@ use Rattle.meaning.specs.Table.{bit}
 use Rattle.meaning.specs.Counting.{count, plus, forward}
 use Rattle.meaning.proofs.Tests.{largest-same}
 use Rattle.meaning.proofs.Steps.{count-beyond, forward-length, forward-at}
-use Rattle.counts.specs.Cells.{cell, cells, halfOf}
+use Rattle.counts.specs.Cells.{cells, halfOf, brought}
 use Rattle.counts.specs.declared.position.Half.{Half}
 use Rattle.counts.proofs.Cells.{cells-at}
 use Rattle.counts.proofs.Edges.{mask-beyond}
-
--- what state p brings to state q going forward
-abbrev pub brought : ℕ → Half → List ℤ → ℕ → ℕ → ℕ
-brought k half m q p = cond (bit (getD (half .masks) p 0) q) (plus k (getD (half .marks) q 0) (cell m p)) 0
 
 module _ (k : ℕ) (half : Half) (m : List ℤ) where
   pub forward-brought : (q : ℕ) → length (half .masks) ≡ 8 → q < half .targets

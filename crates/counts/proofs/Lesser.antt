@@ -1,5 +1,5 @@
--- The lesser counts of two positions are the highest position below both, and widening to eight counts keeps them. Each is read off count by
--- count. Assumes nothing.
+-- The lesser counts of two positions are the highest position below both, and widening to eight counts keeps them. Each is read off count
+-- by count. Assumes nothing.
 use mathlib.Core.Path.{_≡_, sym, _∙_}
 use mathlib.Core.Bool.{true}
 use Prim.Native.Nat.{ℕ, _≤_, _<_, min}
@@ -47,4 +47,11 @@ wide-lesser F G =
     same-counts (positionBytes (lesserCounts F G)) (lesserCounts (positionBytes F) (positionBytes G))
     (wide-length (lesserCounts F G) ∙ sym (wide-length F) ∙ sym (lesser-length (positionBytes F) (positionBytes G)))
     (λ q l. let k : q < 8 = rw (wide-length (lesserCounts F G)) at l in
-    omega (arith, wide-at (lesserCounts F G) q k, lesser-at F G q, lesser-at (positionBytes F) (positionBytes G) q, wide-at F q k, wide-at G q k))
+    omega (
+      arith,
+      wide-at (lesserCounts F G) q k,
+      lesser-at F G q,
+      lesser-at (positionBytes F) (positionBytes G) q,
+      wide-at F q k,
+      wide-at G q k,
+    ))

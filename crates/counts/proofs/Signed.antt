@@ -1,5 +1,5 @@
--- Signed counts. First what the code meets: a signed test, and the casts between bytes and signed numbers. Then the steps of one count: each
--- signed definition, read one higher, is the step that the definitions over ℕ make (`lesser-signed`, `greater-signed`, `plus-signed`,
+-- Signed counts. First what the code meets: a signed test, and the casts between bytes and signed numbers. Then the steps of one count:
+-- each signed definition, read one higher, is the step that the definitions over ℕ make (`lesser-signed`, `greater-signed`, `plus-signed`,
 -- `less-signed`, `lower-signed`). By cases on the signs. Assumes nothing.
 use mathlib.Core.Path.{_≡_, refl, sym, ap, _∙_}
 use mathlib.Core.Bool.{true, false, true≢false}

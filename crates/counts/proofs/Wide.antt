@@ -1,6 +1,6 @@
--- A position of at most eight states, widened to eight counts: it has the same counts, so every definition that reads counts alone says the same
--- of both, and widening loses nothing. An array m with `cells m ≡ positionBytes F` stands for F: these laws carry what the code gives for m over to F. By
--- the laws of a tab; the order of byte strings by induction. Assumes nothing.
+-- A position of at most eight states, widened to eight counts: it has the same counts, so every definition that reads counts alone says
+-- the same of both, and widening loses nothing. An array m with `cells m ≡ positionBytes F` stands for F: these laws carry what the code
+-- gives for m over to F. By the laws of a tab; the order of byte strings by induction. Assumes nothing.
 use mathlib.Core.Path.{_≡_, sym, ap, _∙_}
 use mathlib.Core.Bool.{Bool, false, cond, _&&_, _||_}
 use mathlib.Core.List.{[], _∷_}
@@ -50,7 +50,8 @@ wide-same F G e same few =
     same-counts F G same (λ q _. sym (wide-count F few q) ∙ ap (λ (H : Position). count H q) e ∙ wide-count G (rw (sym same) few) q)
 
 -- tests and steps read counts alone: positions with the same counts are alike to them
-pub below-counts : (F F′ G G′ : Position) → ((q : ℕ) → count F q ≡ count F′ q) → ((q : ℕ) → count G q ≡ count G′ q) → below F G ≡ below F′ G′
+pub below-counts : (F F′ G G′ : Position) → ((q : ℕ) → count F q ≡ count F′ q) → ((q : ℕ) → count G q ≡ count G′ q)
+    → below F G ≡ below F′ G′
 below-counts F F′ G G′ f g =
     same-test (below F G) (below F′ G′)
     (λ b. below-of F′ G′ (λ q _. rw (← f q, ← g q) (below-at F G b q)))

@@ -1,5 +1,5 @@
 -- How positions and halves of a round stand in code: eight signed counts, and a byte of targets for each state.
-use mathlib.Core.Bool.{cond}
+use mathlib.Core.Bool.{Bool, cond, _&&_}
 use mathlib.Core.List.{List}
 use Prim.Native.Nat.{ℕ, _-_, min}
 use lib.ListN.{length, getD}
@@ -7,7 +7,7 @@ use lib.IntN.{ℤ, pos}
 use Rattle.meaning.specs.Lists.{tab, smallest}
 use Rattle.meaning.specs.Table as T
 use Rattle.meaning.specs.Table.{bit}
-use Rattle.meaning.specs.Counting.{Position, oneHigher, count, plus}
+use Rattle.meaning.specs.Counting.{Position, oneHigher, count, plus, below}
 use Rattle.counts.specs.declared.position.Half.{Half}
 
 -- the count that eight signed counts have at state q, one higher
@@ -27,6 +27,10 @@ unfoldable pub backUnder : Position → T.Half → Position → Position
 backUnder most h F =
     tab (length most) (λ p. smallest (count most p) (h .targets) (λ q. cond (h .edge p q) (count F q - h .mark q) (count most p)))
 
+-- whether two positions have the same counts
+abbrev pub sameCounts : Position → Position → Bool
+sameCounts F G = below F G && below G F
+
 -- the half of a round that masks and marks state
 unfoldable pub halfOf : Half → T.Half
 halfOf h =
@@ -36,6 +40,10 @@ halfOf h =
       edge = λ p q. bit (getD (h .masks) p 0) q;
       mark = λ q. getD (h .marks) q 0;
     }
+
+-- what state p brings to state q going forward
+abbrev pub brought : ℕ → Half → List ℤ → ℕ → ℕ → ℕ
+brought K h m q p = cond (bit (getD (h .masks) p 0) q) (plus K (getD (h .marks) q 0) (cell m p)) 0
 
 -- the start position that a mask of start states gives a side of n states
 unfoldable pub startCounts : ℕ → ℕ → ℕ → Position

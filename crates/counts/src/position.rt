@@ -1,12 +1,10 @@
 // One position: eight counts, -1 where no run is and where the side has no state.
 use crate::count;
 ghost use mathlib.Core.Path.{_≡_};
-ghost use mathlib.Core.Bool.{cond, _&&_};
 ghost use Prim.Native.Nat.{_≤_, _+_};
-ghost use lib.ListN.{getD};
 ghost use Rattle.meaning.specs.Lists.{largest, tab};
-ghost use Rattle.meaning.specs.Counting.{oneHigher, below as belowAll, plus, forward as forwardBy};
-ghost use Rattle.counts.specs.Cells.{cell, cells, halfOf, startCounts};
+ghost use Rattle.meaning.specs.Counting.{oneHigher, below as belowAll, forward as forwardBy};
+ghost use Rattle.counts.specs.Cells.{cells, sameCounts, halfOf, brought, startCounts};
 ghost use Rattle.meaning.specs.Written.{positionBytes};
 ghost use Rattle.meaning.specs.Table.{bit};
 
@@ -34,7 +32,7 @@ pub fn below(a: &[i8; 8], b: &[i8; 8]) -> bool
 // The largest count that a letter's edges bring to state q.
 fn arriving(m: &[i8; 8], half: Half, q: usize, k: usize) -> i8
     requires { ⌜ k ≤ 7 ⌝ }
-    ensures { λ r. ⌜ oneHigher r ≡ largest (half .sources) (λ p. cond (bit (getD (half .masks) p 0) q) (plus k (getD (half .marks) q 0) (cell (now (m .entry)) p)) 0) ⌝ }
+    ensures { λ r. ⌜ oneHigher r ≡ largest (half .sources) (brought k half (now (m .entry)) q) ⌝ }
 {
     let mut most = -1i8;
     if 8 <= q {
@@ -104,7 +102,7 @@ pub fn start(starts: u8, n: usize, k: usize) -> [i8; 8]
 
 // Whether two positions have the same counts.
 pub fn same(a: &[i8; 8], b: &[i8; 8]) -> bool
-    ensures { λ r. ⌜ r ≡ (belowAll (cells (now (a .entry))) (cells (now (b .entry))) && belowAll (cells (now (b .entry))) (cells (now (a .entry)))) ⌝ }
+    ensures { λ r. ⌜ r ≡ sameCounts (cells (now (a .entry))) (cells (now (b .entry))) ⌝ }
 {
     below(a, b) & below(b, a)
 }

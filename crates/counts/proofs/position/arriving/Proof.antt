@@ -1,6 +1,6 @@
--- `arriving`: the loop's invariant is that `most` is the largest count that the side's states before p bring to q. A turn adds what p brings over
--- an edge, and nothing elsewhere. At 8 that is the largest over the whole side, since there are eight masks. The measure is the number of
--- states left. Assumes nothing.
+-- `arriving`: the loop's invariant is that `most` is the largest count that the side's states before p bring to q. A turn adds what p
+-- brings over an edge, and nothing elsewhere. At 8 that is the largest over the whole side, since there are eight masks. The measure is
+-- the number of states left. Assumes nothing.
 use mathlib.Core.Path.{_≡_, sym, ap, _∙_}
 use mathlib.Core.Logic.{⊎-elim}
 use Prim.Native.Nat.{_-_, _≤_}
@@ -13,10 +13,9 @@ use mir.Syntax.{w8}
 use mir.Val.{toZ}
 use Rattle.meaning.specs.Lists.{largest}
 use Rattle.meaning.specs.Counting.{plus, oneHigher}
-use Rattle.counts.specs.Cells.{cell}
+use Rattle.counts.specs.Cells.{cell, brought}
 use Rattle.counts.proofs.Signed.{from-bits, greater-signed, plus-signed}
 use Rattle.counts.proofs.Edges.{bit-beyond, mask-beyond, within, largest-next, largest-within}
-use Rattle.counts.proofs.Halves.{brought}
 use Rattle.counts.proofs.position.arriving.Statement.{statement}
 use Rattle.counts.proofs.position.arriving.Tie as tie
 
@@ -85,9 +84,10 @@ returns-2 c =
     let start = at .before .before in
     let half = start .args .t2 in
     let whole : at .loop .p ≡ 8 = omega arith in
+    let eight = length-unmapped _ (half .masks) 8 (start .good .1 .0 .1 .1 .1 .1 .0 .1 .0 .1) in
     (rw whole at (at .loop .inv .1))
     ∙ largest-within 8 (half .sources) (brought (start .args .k) half (start .args .m .now) (start .args .q))
-    (λ p l. rw (mask-beyond (half .masks) p (start .args .q) (length-unmapped _ (half .masks) 8 (start .good .1 .0 .1 .1 .1 .1 .0 .1 .0 .1)) l))
+    (λ p l. rw (mask-beyond (half .masks) p (start .args .q) eight l))
 
 pub arriving-spec : {M : Type 1} → statement M
 arriving-spec =

@@ -1,5 +1,5 @@
--- `below`: the loop's invariant is that `held` says whether each count before q is at most the other's, which at 8 is the definition's test of
--- the two positions. The measure is the number of states left. Assumes nothing.
+-- `below`: the loop's invariant is that `held` says whether each count before q is at most the other's, which at 8 is the definition's
+-- test of the two positions. The measure is the number of states left. Assumes nothing.
 use mathlib.Core.Path.{_≡_, sym, ap₂, _∙_}
 use mathlib.Core.Bool.{_&&_}
 use Prim.Native.Nat.{ℕ, _≤_, _-_}
@@ -46,7 +46,8 @@ loop-again c =
     let q = at .loop .q in
     let a = getD (at .before .args .a .now) q (pos 0) in
     let b = getD (at .before .args .b .now) q (pos 0) in
-    let one = rw (from-bits a (c .before .before .at-most-arg .given), from-bits b (c .before .at-most-arg2 .given)) at (c .at-most .ensures) in
+    let one
+    = rw (from-bits a (c .before .before .at-most-arg .given), from-bits b (c .before .at-most-arg2 .given)) at (c .at-most .ensures) in
     (omega arith, rw (add-one q) (ap₂ _&&_ (at .loop .inv .1) one))
 
 returns : tie.Need-returns Inv-loop μ-loop

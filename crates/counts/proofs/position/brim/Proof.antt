@@ -1,5 +1,5 @@
--- `brim`: the loop's invariant is that `out` holds the brim's counts at the states before q. A turn stores K at a state of the side, and leaves -1
--- elsewhere. The measure is the number of states left. Assumes nothing.
+-- `brim`: the loop's invariant is that `out` holds the brim's counts at the states before q. A turn stores K at a state of the side, and
+-- leaves -1 elsewhere. The measure is the number of states left. Assumes nothing.
 use mathlib.Core.Path.{sym, _∙_}
 use mathlib.Core.Logic.{⊎-elim}
 use Prim.Native.Nat.{_+_, _-_}

@@ -1,5 +1,5 @@
--- `forward`: the loop's invariant is that `out` holds the counts after the step at the states before q. A turn stores what arrives at a state of
--- the side, and leaves -1 beyond it. The measure is the number of states left. Assumes nothing.
+-- `forward`: the loop's invariant is that `out` holds the counts after the step at the states before q. A turn stores what arrives at a
+-- state of the side, and leaves -1 beyond it. The measure is the number of states left. Assumes nothing.
 use mathlib.Core.Logic.{⊎-elim}
 use Prim.Native.Nat.{_-_}
 use borrow.Author.Needs.{needs, length-unmapped}

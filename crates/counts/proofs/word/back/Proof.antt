@@ -1,6 +1,6 @@
 -- `back`: the loop's invariant is that the counts of `low` are the least of the most and of what the targets before q leave. A turn takes
--- the lesser of them and of the target's count less its mark, in every byte, under its bar; beyond the side nothing is left. At 8 that is the
--- step back under the most, since no mask has a target from 8 on. The measure is the number of targets left. Assumes nothing.
+-- the lesser of them and of the target's count less its mark, in every byte, under its bar; beyond the side nothing is left. At 8 that is
+-- the step back under the most, since no mask has a target from 8 on. The measure is the number of targets left. Assumes nothing.
 use mathlib.Core.Path.{_≡_, refl, ap, _∙_}
 use mathlib.Core.Logic.{⊎-elim}
 use Prim.Native.Nat.{_≤_, _-_, min}

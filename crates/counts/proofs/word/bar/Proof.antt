@@ -1,5 +1,5 @@
--- `bar`: the loop's invariant is that the bar's counts at the sources before p are packed in `word`. A turn moves them up by a byte and adds the count of p,
--- by the mask's bit. The measure is the number of sources left. Assumes nothing.
+-- `bar`: the loop's invariant is that the bar's counts at the sources before p are packed in `word`. A turn moves them up by a byte and
+-- adds the count of p, by the mask's bit. The measure is the number of sources left. Assumes nothing.
 use mathlib.Core.Logic.{⊎-elim}
 use Prim.Native.Nat.{_*_, _-_}
 use native.Mathlib.Nat.{add-zero}

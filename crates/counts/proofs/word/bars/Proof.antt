@@ -1,5 +1,5 @@
--- `bars`: the loop's invariant is that the words before q hold the bars of their targets. A turn stores one more, if the side has it. The measure is the
--- number of targets left. Assumes nothing.
+-- `bars`: the loop's invariant is that the words before q hold the bars of their targets. A turn stores one more, if the side has it. The
+-- measure is the number of targets left. Assumes nothing.
 use mathlib.Core.Path.{_≡_, refl}
 use mathlib.Core.Logic.{⊎-elim}
 use Prim.Native.Nat.{ℕ, _<_, _-_}

@@ -1,5 +1,5 @@
--- `lesser`: the flags spread over their bytes choose each byte from the word whose count is the lesser; and the spread flags fit, since there are
--- at most eight. Assumes nothing.
+-- `lesser`: the flags spread over their bytes choose each byte from the word whose count is the lesser; and the spread flags fit, since
+-- there are at most eight. Assumes nothing.
 use native.Mathlib.Omega.{arith}
 use borrow.Author.Needs.{needs}
 use lib.Bits.{and-le-l}
@@ -14,7 +14,7 @@ mul-mask : tie.Need-mul-mask
 mul-mask c = record { fits = omega (arith, c .at-most .ensures, flags-le 8 (c .before .args .a) (c .before .args .b)) }
 
 sub-result : tie.Need-sub-result
-sub-result c = and-le-l (c .before .args .b) _
+sub-result c = and-le-l _ _
 
 returns : tie.Need-returns
 returns c = rw (c .at-most .ensures) (lesser-words (c .before .args .a) (c .before .args .b))

@@ -1,5 +1,5 @@
--- `pack`: the loop's invariant is that the word has the counts before q in its last q bytes, and is no higher. A turn moves them up by a byte and
--- adds the count of q, which is at most 127. The measure is the number of counts left. Assumes nothing.
+-- `pack`: the loop's invariant is that the word has the counts before q in its last q bytes, and is no higher. A turn moves them up by a
+-- byte and adds the count of q, which is at most 127. The measure is the number of counts left. Assumes nothing.
 use mathlib.Core.Path.{_≡_, sym, _∙_}
 use Prim.Native.Nat.{_-_, _≤_}
 use native.Mathlib.Omega.{arith}
@@ -29,7 +29,8 @@ loop-holds c = packed-none (cells (c .args .m .now))
 mul-word : tie.Need-mul-word Inv-loop μ-loop
 mul-word c =
     let at = c .before in
-    let room = packed-room (cells (at .before .args .m .now)) (at .loop .q) (at .loop .word) (at .loop .inv) 0 (c .loop-test .taken) (omega arith) in
+    let m = at .before .args .m .now in
+    let room = packed-room (cells m) (at .loop .q) (at .loop .word) (at .loop .inv) 0 (c .loop-test .taken) (omega arith) in
     record { fits = omega (arith, room) }
 
 element-copy-out-to-byte : tie.Need-element-copy-out-to-byte Inv-loop μ-loop
@@ -43,7 +44,8 @@ cast-word c = search needs
 
 -- the byte is the count of q, and at most 127
 byte-is : (c : tie.After-to-byte Inv-loop μ-loop)
-    → (count (cells (c .before .before .before .before .args .m .now)) (c .before .before .before .loop .q) ≡ c .to-byte .result) × (c .to-byte .result ≤ 127)
+    → (count (cells (c .before .before .before .before .args .m .now)) (c .before .before .before .loop .q) ≡ c .to-byte .result)
+    × (c .to-byte .result ≤ 127)
 byte-is c =
     let in-loop = c .before .before in
     let at = in-loop .before in
@@ -61,8 +63,9 @@ add-word : tie.Need-add-word Inv-loop μ-loop
 add-word c =
     let in-loop = c .before .before in
     let at = in-loop .before in
+    let m = at .before .args .m .now in
     record {
-      fits = packed-room (cells (at .before .args .m .now)) (at .loop .q) (at .loop .word) (at .loop .inv) (c .to-byte .result) (in-loop .loop-test .taken)
+      fits = packed-room (cells m) (at .loop .q) (at .loop .word) (at .loop .inv) (c .to-byte .result) (in-loop .loop-test .taken)
           (omega (arith, byte-is c .1));
     }
 

@@ -1,5 +1,5 @@
--- `unpack`: the loop's invariant is that the counts of the word are those of what is left in its last q bytes, before the array's counts from q on.
--- A turn takes the last count off, and stores it before them. The measure is the number of counts left. Assumes nothing.
+-- `unpack`: the loop's invariant is that the counts of the word are those of what is left in its last q bytes, before the array's counts
+-- from q on. A turn takes the last count off, and stores it before them. The measure is the number of counts left. Assumes nothing.
 use mathlib.Core.Path.{_≡_, refl, ap, _∙_}
 use Prim.Native.Nat.{suc, _-_, _%_, _≤_, min}
 use native.Mathlib.Omega.{arith}
