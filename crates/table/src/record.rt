@@ -21,7 +21,7 @@ pub const OUTPUT: u8 = 3;
 
 pub const INPUT: u8 = 4;
 
-// The largest value of bytes 1, 2 and 3, for kinds 1 to 4.
+// The largest value of bytes 1, 2 and 3, a row a kind, from kind 1 on.
 const LIMITS: [[u8; 3]; 4] = [[7, 3, 0], [7, 1, 0], [7, 7, 7], [7, 7, 7]];
 
 // Record number i of the bytes; past the last whole record, four zeros.
@@ -49,13 +49,13 @@ pub fn at(bytes: &[u8], i: usize) -> Record
 pub fn outside(r: Record) -> bool
     ensures { λ b. ⌜ b ≡ outsideLimits (recordIn r) ⌝ }
 {
-    if r.kind < CONTROLLER {
-        return true;
-    }
-    if INPUT < r.kind {
+    if r.kind == 0 {
         return true;
     }
     let row = (r.kind - 1) as usize;
+    if LIMITS.len() <= row {
+        return true;
+    }
     if LIMITS[row][0] < r.from {
         return true;
     }
