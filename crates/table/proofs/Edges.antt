@@ -25,11 +25,13 @@ isEdge r kind = eqb (r .kind) kind && ltb (r .from) 8 && ltb (r .letter) 8
 
 pub edge-kind : (r : Record) (kind : ℕ) → isEdge r kind ≡ true → r .kind ≡ kind
 edge-kind r kind e =
-    eqb-true (r .kind) kind (both-left (eqb (r .kind) kind) (ltb (r .from) 8) (both-left (eqb (r .kind) kind && ltb (r .from) 8) (ltb (r .letter) 8) e))
+    let state = both-left (eqb (r .kind) kind && ltb (r .from) 8) (ltb (r .letter) 8) e in
+    eqb-true (r .kind) kind (both-left (eqb (r .kind) kind) (ltb (r .from) 8) state)
 
 pub edge-from : (r : Record) (kind : ℕ) → isEdge r kind ≡ true → r .from < 8
 edge-from r kind e =
-    ltb-true (r .from) 8 (both-right (eqb (r .kind) kind) (ltb (r .from) 8) (both-left (eqb (r .kind) kind && ltb (r .from) 8) (ltb (r .letter) 8) e))
+    let state = both-left (eqb (r .kind) kind && ltb (r .from) 8) (ltb (r .letter) 8) e in
+    ltb-true (r .from) 8 (both-right (eqb (r .kind) kind) (ltb (r .from) 8) state)
 
 pub edge-letter : (r : Record) (kind : ℕ) → isEdge r kind ≡ true → r .letter < 8
 edge-letter r kind e = ltb-true (r .letter) 8 (both-right (eqb (r .kind) kind && ltb (r .from) 8) (ltb (r .letter) 8) e)
@@ -47,7 +49,8 @@ edge-more kind rs r l p q = go rs
     go (s ∷ rs) = ap (λ (b : Bool). f s || b) (go rs) ∙ sym (or-assoc (f s) (any f rs) (f r))
 
 -- an edge is that of a record of its letter and state if their ends are the same
-same-ends : (kind : ℕ) (r : Record) (l p q : ℕ) → r .kind ≡ kind → l ≡ r .letter → p ≡ r .from → same (edgeRecord kind l p q) r ≡ eqb q (r .to)
+same-ends : (kind : ℕ) (r : Record) (l p q : ℕ) → r .kind ≡ kind → l ≡ r .letter → p ≡ r .from
+    → same (edgeRecord kind l p q) r ≡ eqb q (r .to)
 unfolding same
 same-ends kind r l p q k e f = rw (eq-eqb kind (r .kind) (sym k), eq-eqb p (r .from) f, eq-eqb l (r .letter) e)
 
@@ -88,7 +91,8 @@ targets-other kind rs r none =
     let l : k / 8 ≡ r .letter = ap (λ (s : Record). s .letter) e in
     clash (isEdge r kind)
     (both (eqb (r .kind) kind && ltb (r .from) 8) (ltb (r .letter) 8)
-    (both (eqb (r .kind) kind) (ltb (r .from) 8) (eq-eqb (r .kind) kind (ap (λ (s : Record). s .kind) (sym e))) (lt-ltb (r .from) 8 (omega arith)))
+    (both (eqb (r .kind) kind) (ltb (r .from) 8) (eq-eqb (r .kind) kind (ap (λ (s : Record). s .kind) (sym e)))
+    (lt-ltb (r .from) 8 (omega arith)))
     (lt-ltb (r .letter) 8 (omega arith)))
     none))
 

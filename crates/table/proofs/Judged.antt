@@ -1,6 +1,6 @@
 -- What a call may take from `check`'s answer: whichever of its tables the bytes are, judging checks 4 to 10 gives what the answer's case
--- says, and where it passes none of them fails and the table is that of the records. The checks of table 1 or 2 differ from those of table 0
--- in that number alone. By induction on the checks, and since the first check that fails is told. Assumes nothing.
+-- says, and where it passes none of them fails and the table is that of the records. The checks of table 1 or 2 differ from those of
+-- table 0 in that number alone. By induction on the checks, and since the first check that fails is told. Assumes nothing.
 use mathlib.Core.Path.{_≡_, refl, sym, ap, _∙_}
 use mathlib.Core.Logic.{_⊎_, inl, inr}
 use mathlib.Core.Bool.{Bool, true, false}
@@ -46,7 +46,8 @@ judge-cases which (c ∷ cs) refuse grant = go (c .failed) refl (judge-cases whi
     go false e rest = rw e rest
 
 pub judge-checked : {A : Type 0} (which : ℕ) (bytes : List ℕ) (refuse : Check → A) (grant : A)
-    → judge (tableChecks which bytes) refuse grant ≡ byChecked (λ r p. refuse (failedCheck which r p)) grant (checkedOf (tableChecks 0 bytes))
+    → judge (tableChecks which bytes) refuse grant
+    ≡ byChecked (λ r p. refuse (failedCheck which r p)) grant (checkedOf (tableChecks 0 bytes))
 unfolding tableChecks
 judge-checked which bytes refuse grant = judge-cases which (tableChecks 0 bytes) refuse grant
 

@@ -24,14 +24,16 @@ abbrev pub numbered : List Record → Bool
 numbered states = each (length states) (λ k. eqb (at states k .from) k)
 
 -- one state more
-numbered-more : (states : List Record) (r : Record) → numbered states ≡ true → r .from ≡ length states → numbered (states ++ (r ∷ [])) ≡ true
+numbered-more : (states : List Record) (r : Record) → numbered states ≡ true → r .from ≡ length states
+    → numbered (states ++ (r ∷ [])) ≡ true
 numbered-more states r before e =
     let n = length states in
     let more = states ++ (r ∷ []) in
     let f : ℕ → Bool = λ k. eqb (at more k .from) k in
     ap (λ (m : ℕ). each m f) (length-append states (r ∷ []) ∙ add-one n)
     ∙ both (each n f) (f n)
-    (each-same n f (λ k. eqb (at states k .from) k) (λ k h. ap (λ (s : Record). eqb (s .from) k) (at-other states r k (λ q. omega arith))) ∙ before)
+    (each-same n f (λ k. eqb (at states k .from) k)
+    (λ k h. ap (λ (s : Record). eqb (s .from) k) (at-other states r k (λ q. omega arith))) ∙ before)
     (ap (λ (s : Record). eqb (s .from) n) (at-last states r) ∙ eq-eqb (r .from) n e)
 
 pub numbered-this : (kind : ℕ) (rs : List Record) (r : Record) → r .kind ≡ kind → numbered (ofKind kind rs) ≡ true
@@ -39,7 +41,8 @@ pub numbered-this : (kind : ℕ) (rs : List Record) (r : Record) → r .kind ≡
 numbered-this kind rs r e before number = ap numbered (ofKind-this kind rs r e) ∙ numbered-more (ofKind kind rs) r before number
 
 -- a state that does not bear its number
-misnumbered-state : (before : List Record) (r : Record) (rest : List Record) → (r .from ≡ length before → ⊥) → misnumbered (before ++ (r ∷ rest)) ≡ true
+misnumbered-state : (before : List Record) (r : Record) (rest : List Record) → (r .from ≡ length before → ⊥)
+    → misnumbered (before ++ (r ∷ rest)) ≡ true
 misnumbered-state before r rest wrong =
     let all = before ++ (r ∷ rest) in
     let n = length before in

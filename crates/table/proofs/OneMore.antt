@@ -41,7 +41,9 @@ ofKind-this kind rs r e = ofKind-around kind rs r [] e
 
 pub ofKind-other : (kind : ℕ) (rs : List Record) (r : Record) → (r .kind ≡ kind → ⊥) → ofKind kind (rs ++ (r ∷ [])) ≡ ofKind kind rs
 unfolding ofKind
-ofKind-other kind rs r e = rw (keep-append (λ s. eqb (s .kind) kind) rs (r ∷ []), ne-eqb (r .kind) kind e) (append-nil (keep (λ s. eqb (s .kind) kind) rs))
+ofKind-other kind rs r e =
+    let ofThis : Record → Bool = λ s. eqb (s .kind) kind in
+    rw (keep-append ofThis rs (r ∷ []), ne-eqb (r .kind) kind e) (append-nil (keep ofThis rs))
 
 -- there are at most as many as there are records
 pub ofKind-few : (kind i : ℕ) (rs : List Record) → length (ofKind kind (take i rs)) ≤ i
@@ -76,7 +78,8 @@ letters-this kind rs r e =
     ap (λ (l : List Record). largest (length l) (λ i. suc (at l i .letter))) (ofKind-this kind rs r e)
     ∙ ap (λ (n : ℕ). largest n f) (length-append es (r ∷ []) ∙ add-one (length es))
     ∙ ap₂ max
-    (largest-same (length es) f (λ i. suc (at es i .letter)) (λ i h. ap (λ (s : Record). suc (s .letter)) (at-other es r i (λ q. omega arith))))
+    (largest-same (length es) f (λ i. suc (at es i .letter))
+    (λ i h. ap (λ (s : Record). suc (s .letter)) (at-other es r i (λ q. omega arith))))
     (ap (λ (s : Record). suc (s .letter)) (at-last es r))
 
 pub letters-other : (kind : ℕ) (rs : List Record) (r : Record) → (r .kind ≡ kind → ⊥) → letters kind (rs ++ (r ∷ [])) ≡ letters kind rs

@@ -26,7 +26,8 @@ each-fails n f i h p = refuted (each n f) (λ q. clash (f i) (each-at n f q i h)
 -- a number is the first if none before it holds, and it does or is past the last
 pub first-none : (n : ℕ) (f : ℕ → Bool) → ((j : ℕ) → j < n → f j ≡ false) → first n f ≡ n
 first-none n f none =
-    ⊎-elim (λ (e : first n f ≡ n). e) (λ l. absurd (clash (f (first n f)) (first-holds n f l) (none (first n f) l))) (eq-or-lt-of-le (first-le n f))
+    ⊎-elim (λ (e : first n f ≡ n). e) (λ l. absurd (clash (f (first n f)) (first-holds n f l) (none (first n f) l)))
+    (eq-or-lt-of-le (first-le n f))
 
 module _ {A : Type 0} (f : A → Bool) (xs : List A) (d : A) where
   pub place-is : (i : ℕ) → i < length xs → f (getD xs i d) ≡ true → ((j : ℕ) → j < i → f (getD xs j d) ≡ false) → place f xs ≡ i

@@ -1,5 +1,5 @@
--- A table of at most eight states a side and eight letters is what its masks and marks state. Each part by the laws of masks, then the table
--- as one equation. Assumes nothing.
+-- A table of at most eight states a side and eight letters is what its masks and marks state. Each field by the laws of masks, then the
+-- table as one equation. Assumes nothing.
 use mathlib.Core.Path.{_≡_, sym, ap, ap₂, _∙_}
 use mathlib.Core.Bool.{Bool, true, false, _&&_, and-false}
 use mathlib.Core.List.{List}
@@ -73,7 +73,8 @@ module _ (edge : ℕ → ℕ → ℕ → Bool) (within : (l p q : ℕ) → edge 
     where
       letter : edgeIn (targets edge) l p q ≡ true → Dec (l < 8) → l < 8
       letter e (yes h) = h
-      letter e (no h) = absurd (clash (edgeIn (targets edge) l p q) e (no-ninth-letter (targets edge) l p q (targets-length edge) (omega arith)))
+      letter e (no h) =
+          absurd (clash (edgeIn (targets edge) l p q) e (no-ninth-letter (targets edge) l p q (targets-length edge) (omega arith)))
 
 -- the table that a table's masks and marks state is that table
 pub unpacked : (t : T.Table) → InEight t → tableIn (packed t) ≡ t

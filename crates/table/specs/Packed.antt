@@ -4,7 +4,7 @@ use mathlib.Core.List.{List}
 use Prim.Native.Nat.{ℕ, _+_, _*_, _/_, _%_}
 use lib.ListN.{getD}
 use lib.Dec.{ltb}
-use Rattle.meaning.specs.Lists.{tab}
+use Rattle.meaning.specs.Lists.{some, tab}
 use Rattle.meaning.specs.Records as R
 use Rattle.meaning.specs.Table as T
 use Rattle.meaning.specs.Table.{bit}
@@ -19,6 +19,10 @@ recordIn r = record { kind = r .kind; from = r .from; letter = r .letter; to = r
 -- "The targets of one state on one letter are kept as eight bits": letter l, state p is byte l * 8 + p
 abbrev pub edgeIn : List ℕ → ℕ → ℕ → ℕ → Bool
 edgeIn targets letter p q = ltb p 8 && bit (getD targets (letter * 8 + p) 0) q
+
+-- whether state p has an edge for a letter, to one of the first n states
+abbrev pub hasEdge : List ℕ → ℕ → ℕ → ℕ → Bool
+hasEdge targets n letter p = some n (edgeIn targets letter p)
 
 -- the table that masks and marks state
 unfoldable pub tableIn : Table → T.Table

@@ -8,11 +8,11 @@ use crate::record::Record;
 use meaning::Refusal;
 ghost use mathlib.Core.Path.{_≡_};
 ghost use mathlib.Core.List.{[]};
-ghost use Rattle.meaning.specs.Lists.{place, each, some};
+ghost use Rattle.meaning.specs.Lists.{place, each};
 ghost use Rattle.meaning.specs.Records.{recordsOf, ofKind, outside};
 ghost use Rattle.meaning.specs.Table.{tableOf};
-ghost use Rattle.meaning.specs.Checks.{wrongLength, descent, misnumbered as misnumberedStates, noStart, dangling as danglingEdge, gap as gapOf};
-ghost use Rattle.table.specs.Packed.{recordIn, tableIn, packed, edgeIn};
+ghost use Rattle.meaning.specs.Checks.{wrongLength, descent, misnumbered as notNumbered, noStart, dangling as danglingEdge, gap as gapOf};
+ghost use Rattle.table.specs.Packed.{recordIn, tableIn, packed, hasEdge};
 ghost use Rattle.table.specs.declared.Checked.the-variants.{Fails};
 ghost use Rattle.table.specs.Checked.{reading, readingOf};
 
@@ -118,7 +118,7 @@ fn first_descent(bytes: &[u8]) -> usize
 
 // 7: whether a side's state records aren't numbered 0, 1, 2 and so on, or the side has none.
 fn misnumbered(bytes: &[u8], kind: u8) -> bool
-    ensures { λ r. ⌜ r ≡ misnumberedStates (ofKind kind (recordsOf (now (bytes .entry)))) ⌝ }
+    ensures { λ r. ⌜ r ≡ notNumbered (ofKind kind (recordsOf (now (bytes .entry)))) ⌝ }
 {
     let mut states = 0;
     let mut i = 0;
@@ -189,7 +189,7 @@ fn gap(table: Table) -> bool
 
 // Whether every state has an edge for each letter.
 fn total(targets: [u8; 64], letters: usize, sources: usize, reached: usize) -> bool
-    ensures { λ r. ⌜ r ≡ each letters (λ l. each sources (λ p. some reached (λ q. edgeIn targets l p q))) ⌝ }
+    ensures { λ r. ⌜ r ≡ each letters (λ l. each sources (hasEdge targets reached l)) ⌝ }
 {
     let mut l = 0;
     while l < letters {
@@ -203,7 +203,7 @@ fn total(targets: [u8; 64], letters: usize, sources: usize, reached: usize) -> b
 
 // Whether every state has an edge for one letter.
 fn total_on(targets: [u8; 64], letter: usize, sources: usize, reached: usize) -> bool
-    ensures { λ r. ⌜ r ≡ each sources (λ p. some reached (λ q. edgeIn targets letter p q)) ⌝ }
+    ensures { λ r. ⌜ r ≡ each sources (hasEdge targets reached letter) ⌝ }
 {
     let mut p = 0;
     while p < sources {
@@ -217,7 +217,7 @@ fn total_on(targets: [u8; 64], letter: usize, sources: usize, reached: usize) ->
 
 // Whether a state has an edge for one letter.
 fn has_edge(targets: [u8; 64], letter: usize, p: usize, reached: usize) -> bool
-    ensures { λ r. ⌜ r ≡ some reached (λ q. edgeIn targets letter p q) ⌝ }
+    ensures { λ r. ⌜ r ≡ hasEdge targets reached letter p ⌝ }
 {
     if 8 <= letter {
         return false;

@@ -28,7 +28,8 @@ returns : tie.Need-returns Inv-loop μ-loop
 returns c =
     let turn = c .before .before in
     let m = turn .before .before .args .mask in
-    sym (some-of (turn .before .before .args .n) (bit m) (turn .before .loop .q) (turn .loop-test .taken) (sym (c .before .has .ensures) ∙ c .if1 .taken))
+    sym (some-of (turn .before .before .args .n) (bit m) (turn .before .loop .q) (turn .loop-test .taken)
+    (sym (c .before .has .ensures) ∙ c .if1 .taken))
 
 add-q : tie.Need-add-q Inv-loop μ-loop
 add-q c = search needs

@@ -23,7 +23,8 @@ returns-2 : tie.Need-returns-2
 returns-2 c =
     let m = c .before .args .mask in
     let q = c .before .args .q in
-    ap (bitOr m) (ap (λ (x : ℕ). x % 256) (one-mul (2 ^ q)) ∙ mod-eq-of-lt (pow-lt (c .if1 .left))) ∙ set-bit m q (omega arith) (c .if1 .left)
+    ap (bitOr m) (ap (λ (x : ℕ). x % 256) (one-mul (2 ^ q)) ∙ mod-eq-of-lt (pow-lt (c .if1 .left)))
+    ∙ set-bit m q (omega arith) (c .if1 .left)
 
 pub with-state-spec : {M : Type 1} → statement M
 with-state-spec = tie.close (tie.spec returns cast-result shl-result returns-2)

@@ -1,6 +1,6 @@
--- `check` answers with the first check that fails, or with the table. At the place after each test stands one fact: the checks up to it pass,
--- so that what is left to judge are the others. Once 5 and 7 have passed, the table that was read states the table of the records, so 8, 9
--- and 10 are about that. Assumes nothing.
+-- `check` answers with the first check that fails, or with the table. At the place after each test stands one fact: the checks up to it
+-- pass, so that what is left to judge are the others. Once 5 and 7 have passed, the table that was read states the table of the records, so
+-- 8, 9 and 10 are about that. Assumes nothing.
 use mathlib.Core.Path.{_≡_, sym, ap, _∙_}
 use mathlib.Core.Logic.{⊎-elim}
 use mathlib.Core.Bool.{true, false}
@@ -37,7 +37,8 @@ abbrev nth : List Check → ℕ → Check
 nth cs n = getD cs n (bound 0)
 
 -- check number n judged, with those before it passed
-fails : (cs : List Check) (n : ℕ) → n < length cs → nth cs n .failed ≡ true → Fails (nth cs n .refusal) (nth cs n .faultAt) ≡ checkedOf (drop n cs)
+fails : (cs : List Check) (n : ℕ) → n < length cs → nth cs n .failed ≡ true
+    → Fails (nth cs n .refusal) (nth cs n .faultAt) ≡ checkedOf (drop n cs)
 fails cs n h p = rw (drop-cons cs n (bound 0) h, p)
 
 passes : (cs : List Check) (n : ℕ) → n < length cs → nth cs n .failed ≡ false → checkedOf (drop n cs) ≡ checkedOf (drop (suc n) cs)
@@ -129,7 +130,8 @@ after-8 c =
 
 -- where an edge of it dangles
 stray : (c : tie.After-first-dangling) → let rs = recordsOf (bytes-9 c) in c .first-dangling .result ≡ place (dangling (tableOf rs)) rs
-stray c = c .first-dangling .ensures ∙ ap (λ (t : T.Table). place (dangling t) (recordsOf (bytes-9 c))) (same-table (c .before .before .before))
+stray c =
+    c .first-dangling .ensures ∙ ap (λ (t : T.Table). place (dangling t) (recordsOf (bytes-9 c))) (same-table (c .before .before .before))
 
 after-9 : (c : tie.Else7) → Left 6 (bytes-9 (c .before))
 unfolding tableChecks

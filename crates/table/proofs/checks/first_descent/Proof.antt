@@ -62,7 +62,8 @@ loop-again c =
     let first = second .before in (
       search needs,
       below-more _ _ (first .before .before .loop .inv .1)
-          (ap₂ ascends (sym (first .at .ensures)) (sym (second .at2 .ensures)) ∙ sym (c .before .ascends .ensures) ∙ not-false _ (c .if1 .left)),
+          (ap₂ ascends (sym (first .at .ensures)) (sym (second .at2 .ensures)) ∙ sym (c .before .ascends .ensures)
+          ∙ not-false _ (c .if1 .left)),
     )
 
 add-result-2 : tie.Need-add-result-2 Inv-loop μ-loop

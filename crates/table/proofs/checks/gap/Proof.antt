@@ -20,7 +20,8 @@ module _ (t : T.Table) (outputs : Bool) (some-output : t .outputs ≡ 0 → ⊥)
 
   gap-on-input : (inputs : Bool) → not outputs ≡ false → inputs ≡ each (t .inputs) (λ i. total (onInput t i)) → not inputs ≡ gap t
   unfolding gap
-  gap-on-input inputs none all-inputs = rw (ne-eqb _ 0 some-output, ne-eqb _ 0 some-input, sym all-outputs, not-false outputs none) (ap not all-inputs)
+  gap-on-input inputs none all-inputs =
+      rw (ne-eqb _ 0 some-output, ne-eqb _ 0 some-input, sym all-outputs, not-false outputs none) (ap not all-inputs)
 
 returns : tie.Need-returns
 unfolding gap tableIn

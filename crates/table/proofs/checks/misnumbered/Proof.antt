@@ -87,7 +87,8 @@ returns-2 c =
     let states = ofKind (args .kind) (take (c .before .loop .i) (recordsOf (now (args .bytes)))) in
     ap (λ (n : ℕ). eqb n 0) (c .before .loop .inv .1)
     ∙ sym (misnumbered-nowhere states (c .before .loop .inv .2))
-    ∙ ap (λ (l : List Record). misnumbered (ofKind (args .kind) l)) (all-records (now (args .bytes)) (c .before .loop .i) (c .loop-test .left))
+    ∙ ap (λ (l : List Record). misnumbered (ofKind (args .kind) l))
+    (all-records (now (args .bytes)) (c .before .loop .i) (c .loop-test .left))
 
 pub misnumbered-spec : {M : Type 1} → statement M
 misnumbered-spec =

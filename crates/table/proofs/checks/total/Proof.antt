@@ -6,14 +6,14 @@ use Prim.Native.Nat.{ℕ, _≤_, _-_}
 use native.Mathlib.Omega.{arith}
 use borrow.Author.Needs.{needs}
 use borrow.Author.Tests.{not-true, not-false}
-use Rattle.meaning.specs.Lists.{each, some}
-use Rattle.table.specs.Packed.{edgeIn}
+use Rattle.meaning.specs.Lists.{each}
+use Rattle.table.specs.Packed.{hasEdge}
 use Rattle.table.proofs.Searches.{each-more, each-fails}
 use Rattle.table.proofs.checks.total.Statement.{statement}
 use Rattle.table.proofs.checks.total.Tie as tie
 
 abbrev Inv-loop : tie.InvT-loop
-Inv-loop targets letters sources reached l₀ l = (l ≤ letters) × (each l (λ (l : ℕ). each sources (λ p. some reached (λ q. edgeIn targets l p q))) ≡ true)
+Inv-loop targets letters sources reached l₀ l = (l ≤ letters) × (each l (λ (l : ℕ). each sources (hasEdge targets reached l)) ≡ true)
 
 abbrev μ-loop : tie.MeasureT-loop
 μ-loop targets letters sources reached l₀ l = letters - l
@@ -28,7 +28,8 @@ returns : tie.Need-returns Inv-loop μ-loop
 returns c =
     let turn = c .before .before in
     let args = turn .before .before .args in
-    sym (each-fails (args .letters) (λ (l : ℕ). each (args .sources) (λ p. some (args .reached) (λ q. edgeIn (args .targets) l p q))) (turn .before .loop .l) (turn .loop-test .taken)
+    sym (each-fails (args .letters) (λ (l : ℕ). each (args .sources) (hasEdge (args .targets) (args .reached) l)) (turn .before .loop .l)
+    (turn .loop-test .taken)
     (sym (c .before .total-on .ensures) ∙ not-true _ (c .if1 .taken)))
 
 add-l : tie.Need-add-l Inv-loop μ-loop
@@ -42,7 +43,8 @@ loop-again c =
     let turn = c .before .before in
     let args = turn .before .before .args in (
       search needs,
-      each-more (turn .before .loop .l) (λ (l : ℕ). each (args .sources) (λ p. some (args .reached) (λ q. edgeIn (args .targets) l p q))) (turn .before .loop .inv .1)
+      each-more (turn .before .loop .l) (λ (l : ℕ). each (args .sources) (hasEdge (args .targets) (args .reached) l))
+          (turn .before .loop .inv .1)
           (sym (c .before .total-on .ensures) ∙ not-false _ (c .if1 .left)),
     )
 
@@ -50,7 +52,8 @@ returns-2 : tie.Need-returns-2 Inv-loop μ-loop
 returns-2 c =
     let args = c .before .before .args in
     let last : c .before .loop .l ≡ args .letters = omega arith in
-    sym (subst (λ (n : ℕ). each n (λ (l : ℕ). each (args .sources) (λ p. some (args .reached) (λ q. edgeIn (args .targets) l p q))) ≡ true) last (c .before .loop .inv .1))
+    sym (subst (λ (n : ℕ). each n (λ (l : ℕ). each (args .sources) (hasEdge (args .targets) (args .reached) l)) ≡ true) last
+    (c .before .loop .inv .1))
 
 pub total-spec : {M : Type 1} → statement M
 total-spec =

@@ -6,14 +6,14 @@ use Prim.Native.Nat.{ℕ, _≤_, _-_}
 use native.Mathlib.Omega.{arith}
 use borrow.Author.Needs.{needs}
 use borrow.Author.Tests.{not-true, not-false}
-use Rattle.meaning.specs.Lists.{each, some}
-use Rattle.table.specs.Packed.{edgeIn}
+use Rattle.meaning.specs.Lists.{each}
+use Rattle.table.specs.Packed.{hasEdge}
 use Rattle.table.proofs.Searches.{each-more, each-fails}
 use Rattle.table.proofs.checks.total_on.Statement.{statement}
 use Rattle.table.proofs.checks.total_on.Tie as tie
 
 abbrev Inv-loop : tie.InvT-loop
-Inv-loop targets letter sources reached p₀ p = (p ≤ sources) × (each p (λ (p : ℕ). some reached (λ q. edgeIn targets letter p q)) ≡ true)
+Inv-loop targets letter sources reached p₀ p = (p ≤ sources) × (each p (hasEdge targets reached letter) ≡ true)
 
 abbrev μ-loop : tie.MeasureT-loop
 μ-loop targets letter sources reached p₀ p = sources - p
@@ -28,7 +28,8 @@ returns : tie.Need-returns Inv-loop μ-loop
 returns c =
     let turn = c .before .before in
     let args = turn .before .before .args in
-    sym (each-fails (args .sources) (λ (p : ℕ). some (args .reached) (λ q. edgeIn (args .targets) (args .letter) p q)) (turn .before .loop .p) (turn .loop-test .taken)
+    sym (each-fails (args .sources) (hasEdge (args .targets) (args .reached) (args .letter)) (turn .before .loop .p)
+    (turn .loop-test .taken)
     (sym (c .before .has-edge .ensures) ∙ not-true _ (c .if1 .taken)))
 
 add-p : tie.Need-add-p Inv-loop μ-loop
@@ -42,7 +43,7 @@ loop-again c =
     let turn = c .before .before in
     let args = turn .before .before .args in (
       search needs,
-      each-more (turn .before .loop .p) (λ (p : ℕ). some (args .reached) (λ q. edgeIn (args .targets) (args .letter) p q)) (turn .before .loop .inv .1)
+      each-more (turn .before .loop .p) (hasEdge (args .targets) (args .reached) (args .letter)) (turn .before .loop .inv .1)
           (sym (c .before .has-edge .ensures) ∙ not-false _ (c .if1 .left)),
     )
 
@@ -50,7 +51,7 @@ returns-2 : tie.Need-returns-2 Inv-loop μ-loop
 returns-2 c =
     let args = c .before .before .args in
     let last : c .before .loop .p ≡ args .sources = omega arith in
-    sym (subst (λ (n : ℕ). each n (λ (p : ℕ). some (args .reached) (λ q. edgeIn (args .targets) (args .letter) p q)) ≡ true) last (c .before .loop .inv .1))
+    sym (subst (λ (n : ℕ). each n (hasEdge (args .targets) (args .reached) (args .letter)) ≡ true) last (c .before .loop .inv .1))
 
 pub total-on-spec : {M : Type 1} → statement M
 total-on-spec =

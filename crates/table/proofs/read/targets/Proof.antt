@@ -95,7 +95,8 @@ returns : tie.Need-returns Inv-loop μ-loop
 returns c =
     let args = c .before .before .before .args in
     c .before .loop .inv .1
-    ∙ ap (λ (l : List Record). targetsOf (edgeOf (args .kind) l)) (all-records (now (args .bytes)) (c .before .loop .i) (c .loop-test .left))
+    ∙ ap (λ (l : List Record). targetsOf (edgeOf (args .kind) l))
+    (all-records (now (args .bytes)) (c .before .loop .i) (c .loop-test .left))
 
 pub targets-spec : {M : Type 1} → statement M
 targets-spec =
