@@ -177,6 +177,10 @@ test_card() {
     for field in k code place rounds winners start; do
         holds "the card explains $field" grep -qF "**$field**:" "$scratch/page"
     done
+    call "$root/desk" --card
+    says "the card as a page to print" 0 '<h1>The card: what the desk' '<tr><td>14</td><td>SIZE</td>' '<b>winners</b>:' '</ul>' \
+        '<code>./desk --plain FILE</code>' 'page-break-before: always'
+    holds "it has every row" test "$(grep -c '<tr><td>' "$scratch/out")" -eq "$(grep -c '^| [0-9]' "$root/docs/CARD.md")"
 }
 
 # What the documents name is there, in the repository or in each crate, and a crate stands below all that it uses.
@@ -475,7 +479,7 @@ edit() { echo '// edited' >>"$tree/$1"; } # FILE
 test_building() {
     program_prints 'k 0 code 0 place 0 rounds 0 winners 1 start 0' '0 1 0 0' '0 1 1 0'
     rm -rf "$tree/target" "$kit/calls"
-    echo 1 >"$kit/slow"
+    echo 3 >"$kit/slow"
     stand_in "$owed"
     rm "$kit/slow"
     says "what is being proved is shown" 0 "proved and built first" "  proving desk; left to prove: 1"

@@ -71,11 +71,11 @@ check() { # NAME
     (cd "$root" && exec setsid "$rt" check "$1") >"$scratch/build" 2>&1 </dev/null &
     proving=$!
     said=
-    tick=0
+    waited=0
     while kill -0 "$proving" 2>/dev/null; do
         follow "$1"
-        sleep 0.2
-        tick=$((tick + 1))
+        for _ in 1 2 3 4 5; do kill -0 "$proving" 2>/dev/null && sleep 0.2; done
+        waited=$((waited + 1))
     done
     wait "$proving" || {
         proving=
@@ -95,12 +95,14 @@ follow() { # NAME
         [ ! -f "$root/target/log/$crate.out" ] || now="$now${now:+, }$crate"
     done
     [ -n "$now" ] || return 0
+    now="proving $now; left to prove: $left"
     if [ "$now" != "$said" ]; then
         said=$now
-        tick=0
-        tell "  proving $now; left to prove: $left" >&2
-    elif [ $((tick % 150)) -eq 149 ]; then
-        tell "  still proving $now; left to prove: $left" >&2
+        waited=0
+        tell "  $now" >&2
+    elif [ "$waited" -ge 30 ]; then
+        waited=0
+        tell "  still $now" >&2
     fi
 }
 
