@@ -732,6 +732,8 @@ test_examples() {
     answers "LAMP with a run that comes back" 1 'Tried with patience 0 to 7: no controller.'
     sed -e '/^4 0 1 0/d' -e '/^4 1 1 1/d' "$root/tables/lamp.table" >"$asked"
     answers "LAMP without the runs that watch on" 0 'with patience 0 it has'
+    sed '/^4 0 1 0/d' "$root/tables/owed.table" >"$asked"
+    answers "OWED without the run that watches on" 0 'with patience 0 it has 1 state of its own.'
 }
 
 test_joins() {
