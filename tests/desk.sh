@@ -174,8 +174,8 @@ test_card() {
     sed '/^<div/,$d' "$root/docs/CARD.md" >"$scratch/page"
     holds "the card's first page has at most 450 words" test "$(wc -w <"$scratch/page")" -le 450
     for code in 0 1 4 5 6 7 8 9 10 11 13 14; do holds "code $code is on the first page" grep -q "^| $code |" "$scratch/page"; done
-    for field in k code place rounds winners start; do
-        holds "the card explains $field" grep -qF "**$field**:" "$scratch/page"
+    for field in k code place which rounds winners start; do
+        holds "the card explains $field" grep -q "[*][*]${field}[*][*][:,]" "$scratch/page"
     done
     call "$root/desk" --card
     says "the card as a page to print" 0 '<h1>The card: what the desk' '<tr><td>14</td><td>SIZE</td>' '<b>winners</b>:' '</ul>' \
