@@ -538,7 +538,7 @@ test_broken_off_check() { # SIGNAL
     edit crates/desk/src/main.rt
     echo 60 >"$kit/slow"
     rm -f "$scratch/received"
-    call timeout -s "$1" 2 env PATH="$kit/bin:$plain" RATTLE_HOME="$kit" "$tree/desk" "$owed"
+    call timeout -s "$1" 5 env PATH="$kit/bin:$plain" RATTLE_HOME="$kit" "$tree/desk" "$owed"
     rm "$kit/slow"
     holds "a check broken off by $1" grep -qF "Broken off: the program was not built." "$scratch/err"
     holds "no program is run then" test ! -e "$scratch/received"
@@ -551,11 +551,11 @@ test_broken_off_check() { # SIGNAL
 # Two calls at once: one checks, and the other waits for it.
 test_two_at_once() {
     edit crates/desk/src/main.rt
-    echo 2 >"$kit/slow"
+    echo 4 >"$kit/slow"
     rm -f "$kit/calls"
     env PATH="$kit/bin:$plain" RATTLE_HOME="$kit" "$tree/desk" "$owed" >"$scratch/first.out" 2>"$scratch/first.err" &
     other=$!
-    sleep 1
+    for _ in 1 2 3 4 5 6 7 8 9; do [ -s "$kit/calls" ] || sleep 1; done
     stand_in "$owed"
     says "a call during a check waits" 0 "Another ./desk is proving and building the program." 'k 0 code 0 '
     rm "$kit/slow"
