@@ -1,4 +1,5 @@
--- `parts` is safe: the patience count stays within 8, and the measure is what is left of it. Assumes what the kit's `io` assumes of writing.
+-- `parts` is safe: the patience count stays within 8, and the measure is what is left of it. Assumes what the kit's `io` assumes of
+-- writing.
 use Prim.Native.Nat.{_≤_, _-_}
 use borrow.Author.Needs.{needs}
 use Rattle.both.proofs.parts.Statement.{statement}

@@ -1,5 +1,5 @@
--- `main` is safe: the lent buffers keep their lengths from patience to patience. The measure is what is left of the patience counts. Assumes what the
--- kit's `io` assumes of reading and writing.
+-- `main` is safe: the lent buffers keep their lengths from patience to patience. The measure is what is left of the patience counts.
+-- Assumes what the kit's `io` assumes of reading and writing.
 use mathlib.Core.Path.{_≡_}
 use Prim.Native.Nat.{_≤_, _-_}
 use borrow.Author.Needs.{needs}

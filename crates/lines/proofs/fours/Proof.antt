@@ -1,5 +1,5 @@
--- `fours` reads within the bytes: the loop's place is at most their length, and four bytes are left at each turn. The measure is the number of
--- lines that are left. Assumes what the kit's `io` assumes of writing.
+-- `fours` reads within the bytes: the loop's place is at most their length, and four bytes are left at each turn. The measure is the
+-- number of lines that are left. Assumes what the kit's `io` assumes of writing.
 use Prim.Native.Nat.{_≤_}
 use borrow.Author.Needs.{needs}
 use lib.ListN.{length}
