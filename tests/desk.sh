@@ -1,7 +1,9 @@
 #!/bin/sh
-# tests/desk.sh: tests what people meet at the desk. First the scripts alone, with a stand-in for the program and the kit, so that
-# every answer can be tried; then with the program itself, which ./desk builds where it is missing.
-# Prints a line for each test and last 'N passed, M failed'. Exit status: 0 if none failed.
+# tests/desk.sh: tests what people meet at the desk. First the scripts alone, with a stand-in for the programs and the kit, so that
+# every answer can be tried; then with the programs themselves, which ./desk builds where they are missing. If one can't be built,
+# nothing more is tried.
+# Prints a line for each test, a line 'skipped: WHAT' for a part that can't be run here, and last 'N passed, M failed'. Exit status: 0
+# if none failed.
 set -u
 
 root=$(CDPATH='' cd "$(dirname "$0")/.." && pwd -P) || exit 2
@@ -24,7 +26,13 @@ fail() { # NAME WHY
     printf 'FAILED  %s: %s\n' "$1" "$2"
 }
 
-skip() { printf 'skipped %s\n' "$1"; }
+skip() { printf 'skipped: %s\n' "$1"; }
+
+finish() {
+    printf '%s passed, %s failed\n' "$passed" "$failed"
+    [ "$failed" -eq 0 ]
+    exit
+}
 
 holds() { # NAME COMMAND..
     name=$1
@@ -70,50 +78,66 @@ kit=$scratch/kit
 tree=$scratch/tree
 plain=$scratch/plain
 
-# A kit whose loader starts anything, and whose rt writes down that it was called and puts $kit/program in place.
+# A kit whose loader starts anything, and whose rt writes down that it was called and puts into target/bin/NAME what runs
+# $kit/program. Before it ends it does what is asked by a file: $kit/refuses to fail though the program is there, $kit/slow to take a while,
+# $kit/edits to change a source meanwhile.
 make_kit() {
     toolchain=$kit/on/$(uname -m)/toolchain
     mkdir -p "$kit/bin" "$toolchain/lib" "$toolchain/bin"
+    echo 'stand-in' >"$kit/KIT-ID"
     printf '%s\n' '#!/bin/sh' 'shift 2' 'exec "$@"' >"$toolchain/lib/ld-linux-x86-64.so.2"
     cat >"$kit/bin/rt" <<'TEXT'
 #!/bin/sh
-kit=$(dirname "$0")/..
+kit=$(cd "$(dirname "$0")/.." && pwd)
 echo "$*" >>"$kit/calls"
+mkdir -p target/bin target/log
+echo 'rt: part proved (1 s)' >target/log/part.out
+: >"target/log/$2.out"
+printf '%s\n' '#!/bin/sh' "exec '$kit/program' \"\$@\"" >"target/bin/$2"
+chmod +x "target/bin/$2"
+[ ! -f "$kit/edits" ] || echo '// edited' >>"crates/$2/src/main.rt"
+[ ! -f "$kit/slow" ] || { sleep "$(cat "$kit/slow")" & wait; }
 if [ -f "$kit/refuses" ]; then
-    echo "rt: desk NOT PROVED"
+    echo "rt: $2 NOT PROVED"
     exit 1
 fi
-[ -f "$kit/unchanged" ] || { mkdir -p target/bin && cp "$kit/program" target/bin/desk; }
+echo "rt: $2 proved (1 s)" >"target/log/$2.out"
 TEXT
     chmod +x "$toolchain/lib/ld-linux-x86-64.so.2" "$kit/bin/rt"
 }
 
 # A repository with the scripts as they are and nothing built.
 make_tree() {
-    mkdir -p "$tree/docs" "$tree/crates/desk/src"
+    mkdir -p "$tree/docs" "$tree/crates/part/src" "$tree/crates/part/must-fail" "$tree/crates/desk/src" "$tree/crates/both/src" \
+        "$tree/crates/other/src"
     cp -R "$root/desk" "$root/tools" "$tree"
     cp "$root/docs/CARD.md" "$tree/docs"
-    echo 'desk:' >"$tree/crates.txt"
-    echo 'fn main() {}' >"$tree/crates/desk/src/main.rt"
+    printf '%s\n' '# a comment' 'part:' 'desk: part io' 'both: part io' 'other: part' >"$tree/crates.txt"
+    for crate in part desk both other; do echo 'fn main() {}' >"$tree/crates/$crate/src/main.rt"; done
 }
 
 # A PATH of the usual tools alone: no rt, no Graphviz.
 make_plain() {
     mkdir "$plain"
-    for tool in sh awk cat chmod cp dirname find grep mkdir mktemp od readlink rm sed tail touch tr uname; do
+    for tool in sh awk cat chmod cp cut dirname find flock grep head mkdir mktemp mv od readlink rm sed setsid sha256sum sleep sort tail \
+        touch tr uname wc; do
         ln -s "$(command -v "$tool")" "$plain/$tool"
     done
 }
 
-# The program that the next calls meet: it keeps what it reads and prints these lines.
+# The program that the next calls meet: it keeps what it reads and the words it is called with, and prints these lines.
 program_prints() { # LINE..
     {
-        printf '%s\n' '#!/bin/sh' "cat >'$scratch/received'" "cat <<'TEXT'"
+        printf '%s\n' '#!/bin/sh' "cat >'$scratch/received'" "printf '%s\\n' \"\$@\" >'$scratch/words'" "cat <<'TEXT'"
         printf '%s\n' "$@" 'TEXT'
     } >"$kit/program"
     chmod +x "$kit/program"
-    mkdir -p "$tree/target/bin"
-    cp "$kit/program" "$tree/target/bin/desk"
+}
+
+# The answers of a program that finds no controller up to this patience; the program for two tables also prints which.
+none_up_to() { # LAST [WHICH]
+    awk -v last="$1" -v which="${2:-}" '
+        BEGIN { for (k = 0; k <= last; k++) print "k " k " code 1 place 0" which " rounds 1 winners 1 start 0" }'
 }
 
 stand_in() { # WORD..
@@ -122,7 +146,7 @@ stand_in() { # WORD..
 
 # ---- the scripts as text
 
-# Every script of the repository: a file whose first line names a shell.
+# Every script of the repository: a file whose first line names a shell. The parts of ./desk are read with it.
 scripts() {
     find "$root" \( -name .git -o -name target -o -name crates \) -prune -o -type f -exec awk '
         FNR == 1 && /^#!.*sh$/ { print FILENAME }' {} +
@@ -131,14 +155,12 @@ scripts() {
 test_scripts() {
     scripts | sort >"$scratch/scripts"
     holds "the scripts are found" grep -qxF "$root/test" "$scratch/scripts"
+    for script in "$root"/tools/desk/*.sh; do holds "sh can read tools/desk/$(basename "$script")" sh -n "$script"; done
+    command -v shellcheck >/dev/null || skip "shellcheck, which is not installed"
     while IFS= read -r script; do
         path=${script#"$root/"}
         holds "sh can read $path" sh -n "$script"
-        if command -v shellcheck >/dev/null; then
-            holds "shellcheck finds nothing in $path" shellcheck "$script"
-        else
-            skip "shellcheck is not installed: $path"
-        fi
+        ! command -v shellcheck >/dev/null || holds "shellcheck finds nothing in $path" shellcheck -x -P SCRIPTDIR "$script"
     done <"$scratch/scripts"
 }
 
@@ -148,6 +170,44 @@ test_card() {
         row="^\\| $code \\| $name \\| [A-Z][^|]*\\. \\| [A-Z][^|]*\\. \\|\$"
         holds "the card has code $code, $name" grep -qE "$row" "$root/docs/CARD.md"
         code=$((code + 1))
+    done
+    sed '/^<div/,$d' "$root/docs/CARD.md" >"$scratch/page"
+    holds "the card's first page has at most 450 words" test "$(wc -w <"$scratch/page")" -le 450
+    for code in 0 1 4 5 6 7 8 9 10 11 13 14; do holds "code $code is on the first page" grep -q "^| $code |" "$scratch/page"; done
+    for field in k code place which rounds winners start; do
+        holds "the card explains $field" grep -q "[*][*]${field}[*][*][:,]" "$scratch/page"
+    done
+    call "$root/desk" --card
+    says "the card as a page to print" 0 '<h1>The card: what the desk' '<tr><td>14</td><td>SIZE</td>' '<b>winners</b>:' '</ul>' \
+        '<code>./desk --plain FILE</code>' 'page-break-before: always'
+    holds "it has every row" test "$(grep -c '<tr><td>' "$scratch/out")" -eq "$(grep -c '^| [0-9]' "$root/docs/CARD.md")"
+}
+
+# What the documents name is there, in the repository or in each crate, and a crate stands below all that it uses.
+test_documents() {
+    # shellcheck disable=SC2016
+    holds "in crates.txt a crate stands below all that it uses" awk '
+        { sub(/#.*/, "") }
+        /:/ { sub(/:/, " "); line[$1] = NR; uses[$1] = $0 }
+        END {
+            for (crate in uses) {
+                last = split(uses[crate], used, " ")
+                for (i = 2; i <= last; i++)
+                    if (line[used[i]] > line[crate]) {
+                        print crate " stands above " used[i]
+                        wrong = 1
+                    }
+            }
+            exit wrong
+        }' "$root/crates.txt"
+    for document in README CARD TABLES READING; do
+        document=$(find "$root/README.md" "$root/docs" -name "$document.md")
+        # shellcheck disable=SC2016
+        for path in $(grep -ho '`[^` ]*/[^` ]*`' "$document" | tr -d '`' | grep -v -e '^target/' -e '^crates/NAME/' | sort -u); do
+            place=$root/$path
+            [ -e "$place" ] || place=$root/crates/meaning/$path
+            holds "${document#"$root/"} names $path" test -e "$place"
+        done
     done
 }
 
@@ -162,6 +222,10 @@ test_calls() {
     says "two files named" 2 "Name one file with a table"
     call "$root/desk" --plain
     says "an option and no file" 2 "Name one file with a table"
+    call "$root/desk" --join one
+    says "one file where two are needed" 2 "Name two files with a table each: ./desk --join A B"
+    call "$root/desk" --parts one two three
+    says "three files where two are needed" 2 "Name two files with a table each: ./desk --parts A B"
     call "$root/desk" --colour "$root/tables/owed.table"
     says "an option that is not there, and a file" 2 "./desk --help"
     call "$root/desk" --colour
@@ -176,11 +240,19 @@ test_files() {
     echo 1020 >"$scratch/closed"
     chmod 000 "$scratch/closed"
     if [ -r "$scratch/closed" ]; then
-        skip "a file that may not be read: this user may read every file"
+        skip "a file that may not be read, since this user may read every file"
     else
         stand_in "$scratch/closed"
         says "a file that may not be read" 2 "$scratch/closed can't be read."
     fi
+    stand_in /dev/zero
+    says "bytes that never end" 2 "/dev/zero has more than 1048576 bytes, or it never ends."
+    mkfifo "$scratch/pipe"
+    yes 1020 >"$scratch/pipe" 2>/dev/null &
+    stand_in "$scratch/pipe"
+    says "a text that never ends" 2 "$scratch/pipe has more than 1048576 bytes, or it never ends."
+    stand_in --join "$root/tables/owed.table" "$scratch/nowhere"
+    says "a second file that is not there" 2 "There is no file $scratch/nowhere."
 }
 
 # ---- text and bytes
@@ -216,6 +288,10 @@ test_text() {
     reaches_the_program "lines that end in a return and a newline" "$scratch/returns"
     owed_records | awk '{ printf "%s%s", (NR > 1 ? "\n" : ""), $0 }' >"$scratch/unended"
     reaches_the_program "a last line without its end" "$scratch/unended"
+    { printf '\357\273\277'; owed_records; } >"$scratch/mark"
+    reaches_the_program "a byte order mark" "$scratch/mark"
+    { printf '\357\273\277# a comment\n'; owed_records; } >"$scratch/mark"
+    reaches_the_program "a byte order mark before a comment" "$scratch/mark"
     cp "$scratch/table" "$scratch/a = b \\n 'table'"
     reaches_the_program "a file with a strange name" "$scratch/a = b \\n 'table'"
     reaches_the_program "a file of bytes" "$scratch/owed.bytes"
@@ -248,59 +324,145 @@ test_bad_text() {
 
 # ---- the plain words
 
+owed=$scratch/owed
+
 test_words() {
-    owed_records | awk 'NR == 1 { print "# OWED" } { print $0 "  # comment" }' >"$scratch/owed"
+    owed_records | awk 'NR == 1 { print "# OWED" } { print $0 "  # comment" }' >"$owed"
     program_prints 'k 0 code 0 place 0 rounds 0 winners 1 start 0' '0 1 0 0' '0 1 1 0'
-    stand_in --plain "$scratch/owed"
-    says "one state" 0 "A controller was made: with patience 0 it has 1 state."
-    program_prints 'k 0 code 1 place 0 rounds 1 winners 1 start 0' 'k 1 code 0 place 0 rounds 0 winners 2 start 1' \
-        '1 1 0 0' '0 1 0 0'
-    stand_in --plain "$scratch/owed"
-    says "two states, patience 1" 0 "with patience 1 it has 2 states. With less patience none can be made."
-    program_prints 'k 7 code 1 place 0 rounds 1 winners 1 start 0'
-    stand_in --plain "$scratch/owed"
-    says "no controller" 1 "No controller can be made with patience 0 to 7."
+    stand_in --plain "$owed"
+    says "one state" 0 "A controller was made: with patience 0 it has 1 state of its own."
+    program_prints "$(none_up_to 0)" 'k 1 code 0 place 0 rounds 0 winners 2 start 1' '1 1 0 0' '1 1 1 0' '0 1 0 0' '0 1 1 1'
+    stand_in --plain "$owed"
+    says "two states, patience 1" 0 "with patience 1 it has 2 states of its own. With less patience none can be made."
+    program_prints "$(none_up_to 7)"
+    stand_in --plain "$owed"
+    says "no controller" 1 "Tried with patience 0 to 7: no controller." "The rule writer should look at which rule can't be kept."
     program_prints 'k 0 code 6 place 12 rounds 0 winners 0 start 0'
-    stand_in --plain "$scratch/owed"
-    says "a record and its line" 3 \
-        "It is record 12, counted from 0: 4111 (line 14 of the file). Before it stands 4101 (line 13 of the file)."
+    stand_in --plain "$owed"
+    says "a record and its line" 3 "The record is 4111, line 14 of $owed (record 12, counted from 0)." "Before it stands 4101, line 13."
     stand_in --plain "$scratch/owed.bytes"
-    says "a record and its bytes" 3 "It is record 12, counted from 0: 4 1 1 1 (bytes 48 to 51 of the file)." \
-        "Before it stands 4 1 0 1 (bytes 44 to 47 of the file)."
-    program_prints 'k 0 code 1 place 0 rounds 1 winners 1 start 0' 'k 1 code 11 place 0 rounds 0 winners 0 start 0'
-    stand_in --plain "$scratch/owed"
-    says "full with patience 1" 3 "No controller can be made with patience 0. With patience 1 the answer is another:" \
+    says "a record and its bytes" 3 "The record is 4 1 1 1, bytes 48 to 51 of $scratch/owed.bytes (record 12, counted from 0)." \
+        "Before it stands 4 1 0 1, bytes 44 to 47." "was taken as plain bytes"
+    program_prints "$(none_up_to 0)" 'k 1 code 11 place 0 rounds 0 winners 0 start 0'
+    stand_in --plain "$owed"
+    says "full with patience 1" 3 "Tried with patience 0: no controller. With patience 1 the answer is another:" \
         "Refused with code 11, FULL:"
     for code in 2 3 4 5 6 7 8 9 10 11 12 13 14; do
         program_prints "k 0 code $code place 1 rounds 0 winners 0 start 0"
-        stand_in --plain "$scratch/owed"
+        stand_in --plain "$owed"
         meaning=$(awk -F ' [|] ' -v code="| $code" '$1 == code { print $2 ": " $3 }' "$root/docs/CARD.md")
         says "code $code in the card's words" 3 "Refused with code $code, $meaning"
     done
 }
 
-test_gaps() {
-    program_prints 'k 0 code 10 place 0 rounds 0 winners 0 start 0'
-    owed_records | sed '$d' >"$scratch/gap"
-    stand_in --plain "$scratch/gap"
-    says "a gap at the world's turn" 3 "The first gap: the world's state 1 has no edge for input 1 (no record begins with 411)."
-    owed_records | sed '/^3101/d' >"$scratch/gap"
-    stand_in --plain "$scratch/gap"
-    says "a gap at the controller's turn" 3 \
-        "The first gap: the controller's state 1 has no edge for output 0 (no record begins with 310)."
-    owed_records | sed '/^4/d' >"$scratch/gap"
-    stand_in --plain "$scratch/gap"
-    says "no input at all" 3 "There is no edge on an input at all (no record begins with 4)."
+# What is found where a code comes without a record.
+finds() { # NAME CODE EDIT TEXT: OWED with this change, refused with this code
+    owed_records | sed "$3" >"$scratch/faulty"
+    program_prints "k 0 code $2 place 0 rounds 0 winners 0 start 0"
+    stand_in --plain "$scratch/faulty"
+    says "$1" 3 "In $scratch/faulty: $4"
+}
+
+test_finds() {
+    finds "no record" 4 d "records found: 0."
+    finds "a state left out" 7 s/^1100/1200/ "the controller-turn state 2 stands where state 1 should be: 1200 (line 2)."
+    finds "the first state left out" 7 /^2000/d "the world-turn state 1 stands where state 0 should be: 2110 (line 3)."
+    finds "a state twice" 7 's/^1100/1030/' "the controller-turn state 0 has a second record, 1030 (line 2)."
+    finds "no state of the controller's turn" 7 /^1/d "there is no controller-turn state (no record begins with 1)."
+    finds "no state of the world's turn" 7 /^2/d "there is no world-turn state (no record begins with 2)."
+    finds "no start" 8 s/^1020/1010/ "the controller-turn states are 1010 (line 1), 1100 (line 2); none has 2 or 3 in its third place."
+    finds "a gap at the world's turn" 10 /^4111/d \
+        "the first gap: the world-turn state 1 has no edge for input 1 (no record begins with 411)."
+    finds "a gap at the controller's turn" 10 /^3101/d \
+        "the first gap: the controller-turn state 1 has no edge for output 0 (no record begins with 310)."
+    finds "no input at all" 10 /^4/d "there is no edge on an input at all (no record begins with 4)."
+}
+
+# ---- two tables
+
+# Answers of the program for two tables.
+both_say() { # CODE PLACE WHICH
+    program_prints "k 0 code $1 place $2 which $3 rounds 0 winners 0 start 0"
+    stand_in --parts "$scratch/one" "$scratch/two"
+}
+
+test_two() {
+    owed_records >"$scratch/one"
+    { echo '# two' && owed_records; } >"$scratch/two"
+    both_say 9 12 1
+    says "a record of the first table" 3 "Refused with code 9, EDGE:" \
+        "The record is 4111, line 13 of $scratch/one (record 12, counted from 0)."
+    holds "the program is called for parts" grep -qx parts "$scratch/words"
+    both_say 6 12 2
+    says "a record of the second table" 3 "The record is 4111, line 14 of $scratch/two (record 12, counted from 0)."
+    both_say 8 0 2
+    says "what is found in the second table" 3 "In $scratch/two: the controller-turn states are 1020 (line 2), 1100 (line 3);"
+    both_say 11 0 1
+    says "the room for the first table" 3 "The room ran out while $scratch/one was solved alone."
+    both_say 11 0 0
+    says "the room for both" 3 "The room ran out while the two were solved together."
+    printf '%s\n' 1020 2000 3000 4000 4010 4020 >"$scratch/two"
+    both_say 13 0 0
+    says "letters that differ" 3 "$scratch/one has the outputs 0 to 1 and the inputs 0 to 1." \
+        "$scratch/two has the outputs 0 and the inputs 0 to 2."
+    both_say 14 0 0
+    says "states that are too many" 3 "$scratch/one has 2 controller-turn and 2 world-turn states." \
+        "$scratch/two has 1 controller-turn and 1 world-turn states." "Together that is 3 controller-turn and 3 world-turn states."
+    program_prints "$(none_up_to 7 ' which 0')"
+    stand_in --parts "$scratch/one" "$scratch/two"
+    says "no controller by parts" 1 "k 7 code 1 place 0 which 0 " "Tried with patience 0 to 7: no controller."
+    program_prints 'code 13 place 0 which 0 rounds 0 winners 0 start 0'
+    stand_in --join "$scratch/one" "$scratch/two"
+    says "a join that is refused" 3 "Refused with code 13, LETTERS:" "$scratch/two has the outputs 0 and the inputs 0 to 2."
+    holds "it writes no table then" test ! -s "$scratch/out"
+    program_prints 'code 0 place 8 which 0 rounds 0 winners 0 start 0' '1 0 2 0' '1 1 3 0'
+    stand_in --join "$scratch/one" "$scratch/two"
+    says "a record that comes from neither table" 4 "a record that comes from neither table"
+}
+
+# ---- output that breaks off
+
+breaks_off() { # NAME
+    stand_in --plain "$owed"
+    says "$1" 4 "The program's output broke off before its end" "Is the disk full?"
+    holds "$1: nothing of it is shown" test ! -s "$scratch/out"
+}
+
+test_broken_output() {
+    answer='k 0 code 0 place 0 rounds 0 winners 1 start 0'
+    program_prints "$answer" '0 1 0 0'
+    breaks_off "a row too few"
+    program_prints "$answer" '0 1 0 0' '0 1 1 0' '0 1 1 0'
+    breaks_off "a row too many"
+    program_prints "$answer" '0 1 0 0' '0 1 1'
+    breaks_off "a row that is not whole"
+    printf '%s\n' '#!/bin/sh' "printf '%s\\n0 1 0 0\\n0 1 1 0' '$answer'" >"$kit/program"
+    breaks_off "a last line without its end"
+    program_prints 'k 0 code 0 place 0 rounds 0 winners 1'
+    breaks_off "an answer that is not whole"
+    program_prints "$(none_up_to 3)"
+    breaks_off "answers that stop after code 1"
+    program_prints "$(none_up_to 1)" 'k 3 code 6 place 1 rounds 0 winners 0 start 0'
+    breaks_off "answers that leave out a patience"
+    program_prints 'no answer'
+    breaks_off "no answer"
+    printf '%s\n' '#!/bin/sh' >"$kit/program"
+    breaks_off "nothing at all"
+    printf '%s\n' '#!/bin/sh' 'exit 7' >"$kit/program"
+    stand_in "$owed"
+    says "a program that breaks off" 4 "The program broke off."
+    program_prints "$answer" '0 1 0 0' '0 1 1 0'
+    if [ -c /dev/full ]; then
+        env PATH="$kit/bin:$plain" RATTLE_HOME="$kit" "$tree/desk" --plain "$owed" >/dev/full 2>"$scratch/err"
+        status=$?
+        : >"$scratch/out"
+        says "a full disk" 4 "What came of it could not be written. Is the disk full?"
+    else
+        skip "a full disk, since there is no /dev/full"
+    fi
 }
 
 # ---- building and running
-
-# The desk's sources and program get dates by hand: an hour of one day for each.
-dated() { # HOUR FILE..
-    hour=$1
-    shift
-    touch -t "20200101${hour}00" "$@"
-}
 
 builds() { # NAME TIMES: how often rt was called, and only so
     times=$(grep -cx 'check desk' "$kit/calls" 2>/dev/null)
@@ -312,52 +474,107 @@ builds() { # NAME TIMES: how often rt was called, and only so
     rm -f "$kit/calls"
 }
 
+edit() { echo '// edited' >>"$tree/$1"; } # FILE
+
 test_building() {
-    owed_records >"$scratch/owed"
     program_prints 'k 0 code 0 place 0 rounds 0 winners 1 start 0' '0 1 0 0' '0 1 1 0'
     rm -rf "$tree/target" "$kit/calls"
-    stand_in "$scratch/owed"
+    echo 3 >"$kit/slow"
+    stand_in "$owed"
+    rm "$kit/slow"
+    says "what is being proved is shown" 0 "proved and built first" "  proving desk; left to prove: 1"
     builds "a program that is missing is built" 1
-    stand_in "$scratch/owed"
-    builds "a program that is new is not built again" 0
-    find "$tree/crates" "$tree/crates.txt" -exec touch -t 202001010100 {} +
-    dated 02 "$tree/target/bin/desk"
-    stand_in "$scratch/owed"
-    builds "a program newer than its sources is not built again" 0
-    dated 03 "$tree/crates/desk/src/main.rt"
-    : >"$kit/unchanged"
-    stand_in "$scratch/owed"
-    builds "a program older than a source is built" 1
-    stand_in "$scratch/owed"
-    builds "once, though the builder found nothing changed" 0
-    rm "$kit/unchanged"
-    dated 02 "$tree/target/bin/desk"
-    : >"$kit/refuses"
-    rm -f "$scratch/received"
-    stand_in "$scratch/owed"
-    says "a build that fails" 4 "rt: desk NOT PROVED" "could not be built"
-    holds "the old program is not run then" test ! -e "$scratch/received"
-    rm "$kit/refuses"
-    call env PATH="$plain" RATTLE_HOME= "$tree/desk" "$scratch/owed"
-    says "nothing to build with" 4 "the Rattle kit was not found"
+    stand_in "$owed"
+    builds "a program that is there is not built again" 0
+    find "$tree/crates" "$tree/crates.txt" -exec touch {} +
+    stand_in "$owed"
+    builds "a program is not old because of a date" 0
+    edit crates/other/src/main.rt
+    edit crates/part/must-fail/wrong.edit
+    echo '# another comment' >>"$tree/crates.txt"
+    stand_in "$owed"
+    builds "a program is not old because of what it is not made of" 0
+    edit crates/part/src/main.rt
+    stand_in "$owed"
+    builds "a program is old when what it is made of has changed" 1
+    sed 's/^part:/part: libc/' "$tree/crates.txt" >"$scratch/crates.txt"
+    cp "$scratch/crates.txt" "$tree/crates.txt"
+    stand_in "$owed"
+    builds "a program is old when a crate of its uses another" 1
+    echo 'another stand-in' >"$kit/KIT-ID"
+    stand_in "$owed"
+    builds "a program is old when the kit is another" 1
+    ln -s "$tree/desk" "$scratch/link"
+    call env PATH="$kit/bin:$plain" RATTLE_HOME="$kit" "$scratch/link" "$owed"
+    builds "a link to ./desk works" 0
+    call env PATH="$plain" RATTLE_HOME= "$tree/desk" "$owed"
+    says "no kit" 4 "The Rattle kit was not found."
 }
 
-test_running() {
-    program_prints 'no answer'
-    stand_in "$scratch/owed"
-    says "a program that gives no answer" 4 "gave no answer that can be read"
-    printf '%s\n' '#!/bin/sh' 'exit 7' >"$tree/target/bin/desk"
-    stand_in "$scratch/owed"
-    says "a program that breaks off" 4 "The desk program broke off (status 7)."
+# Nothing is run but a program whose whole check has passed.
+test_failed_check() {
+    edit crates/desk/src/main.rt
+    : >"$kit/refuses"
+    rm -f "$scratch/received"
+    for times in first second; do
+        stand_in "$owed"
+        says "a check that fails, for the $times time" 4 "rt: desk NOT PROVED" "The check failed"
+        holds "neither the old program nor the new is run then" test ! -e "$scratch/received"
+    done
+    holds "though the new one is there" test -f "$tree/target/bin/desk"
+    rm "$kit/refuses" "$kit/calls"
+    stand_in "$owed"
+    builds "a check that passes next time" 1
+    edit crates/desk/src/main.rt
+    : >"$kit/edits"
+    stand_in "$owed"
+    says "a source that changes during the check" 4 "was changed while it was being proved"
+    rm "$kit/edits" "$kit/calls"
+    stand_in "$owed"
+    builds "the check is made again then" 1
+}
+
+test_broken_off_check() { # SIGNAL
+    edit crates/desk/src/main.rt
+    echo 60 >"$kit/slow"
+    rm -f "$scratch/received"
+    call timeout -s "$1" 5 env PATH="$kit/bin:$plain" RATTLE_HOME="$kit" "$tree/desk" "$owed"
+    rm "$kit/slow"
+    holds "a check broken off by $1" grep -qF "Broken off: the program was not built." "$scratch/err"
+    holds "no program is run then" test ! -e "$scratch/received"
+    rm -f "$kit/calls"
+    stand_in "$owed"
+    holds "nothing of that check is left, which a call would wait for" test "$(grep -c Another "$scratch/err")" -eq 0
+    builds "the next call after $1 checks again" 1
+}
+
+# Two calls at once: one checks, and the other waits for it.
+test_two_at_once() {
+    edit crates/desk/src/main.rt
+    echo 4 >"$kit/slow"
+    rm -f "$kit/calls"
+    env PATH="$kit/bin:$plain" RATTLE_HOME="$kit" "$tree/desk" "$owed" >"$scratch/first.out" 2>"$scratch/first.err" &
+    other=$!
+    for _ in 1 2 3 4 5 6 7 8 9; do [ -s "$kit/calls" ] || sleep 1; done
+    stand_in "$owed"
+    says "a call during a check waits" 0 "Another ./desk is proving and building the program." 'k 0 code 0 '
+    rm "$kit/slow"
+    builds "both by one check" 1
+    cp "$scratch/out" "$scratch/second.out"
+    holds "the other call goes well too" wait "$other"
+    holds "and prints the same" cmp "$scratch/first.out" "$scratch/second.out"
 }
 
 test_program() {
     # shellcheck disable=SC2016
     printf '%s\n' '#!/bin/sh' 'printf "%s\n" "$#" "$@"' 'cat' 'exit 5' >"$tree/target/bin/desk"
+    chmod +x "$tree/target/bin/desk"
     printf '%s\n' 2 'one word' two input >"$scratch/echo"
     echo input >"$scratch/input"
     call env RATTLE_HOME="$kit" "$tree/tools/program" desk 'one word' two <"$scratch/input"
     gives "tools/program hands on words, input and status" 5 "$scratch/echo"
+    call env RATTLE_HOME="$kit" "$tree/tools/program" "$tree/target/bin/desk" 'one word' two <"$scratch/input"
+    gives "tools/program runs a program by its path" 5 "$scratch/echo"
     mkdir -p "$scratch/links/far"
     ln -s far/rt "$scratch/links/rt"
     ln -s "$kit/bin/rt" "$scratch/links/far/rt"
@@ -387,16 +604,16 @@ draws_nothing() { # NAME STATUS TEXT
 
 test_pictures() {
     owed_records >"$scratch/owed"
-    program_prints 'k 7 code 1 place 0 rounds 1 winners 1 start 0'
+    program_prints "$(none_up_to 7)"
     stand_in --picture "$scratch/owed"
-    draws_nothing "no picture without a controller" 1 "No controller can be made with patience 0 to 7."
+    draws_nothing "no picture without a controller" 1 "Tried with patience 0 to 7: no controller."
     program_prints 'k 0 code 8 place 0 rounds 0 winners 0 start 0'
     stand_in --picture "$scratch/owed"
     draws_nothing "no picture of a refusal" 3 "Refused with code 8, START:"
 
     program_prints 'k 0 code 0 place 0 rounds 0 winners 1 start 0' '0 1 0 0' '0 1 1 0'
     stand_in --picture "$scratch/owed"
-    says "the controller where Graphviz is missing" 0 "it has 1 state." \
+    says "the controller where Graphviz is missing" 0 "it has 1 state of its own." \
         "Drawn as $scratch/owed.controller.dot. Graphviz is not installed here"
     holds "the controller as DOT" cmp "$scratch/owed.controller.dot" "$expected/owed.controller.dot"
     holds "no SVG of it" test ! -e "$scratch/owed.controller.svg"
@@ -427,7 +644,7 @@ draws_table() { # NAME FILE
 }
 
 test_table_pictures() {
-    for table in owed silent first night loud; do
+    for table in owed silent first night loud lamp calm; do
         cp "$root/tables/$table.table" "$scratch/$table"
         draws_table "the table $table" "$scratch/$table"
         holds "the table $table as DOT" cmp "$scratch/$table.table.dot" "$expected/$table.table.dot"
@@ -439,7 +656,7 @@ test_table_pictures() {
     holds "the faulty table as DOT" cmp "$scratch/faulty.table.dot" "$expected/faulty.table.dot"
     printf '%s\n' 1020 '# comment' 5020 >"$scratch/strange"
     stand_in --picture-table "$scratch/strange"
-    says "a record that can't be drawn" 2 "the record 5020 (line 3 of the file) is neither a state nor an edge"
+    says "a record that can't be drawn" 2 "the record 5020, line 3, is neither a state nor an edge"
     echo '# nothing' >"$scratch/strange"
     stand_in --picture-table "$scratch/strange"
     says "a table without a record" 2 "there is nothing to draw"
@@ -447,19 +664,27 @@ test_table_pictures() {
 }
 
 test_graphviz() {
-    for picture in "$expected"/*.dot; do
-        if command -v dot >/dev/null; then
-            holds "Graphviz can read $(basename "$picture")" dot -Tsvg "$picture"
-        else
-            skip "Graphviz is not installed: $(basename "$picture")"
-        fi
-    done
+    if ! command -v dot >/dev/null; then
+        skip "Graphviz, which is not installed"
+        return
+    fi
+    for picture in "$expected"/*.dot; do holds "Graphviz can read $(basename "$picture")" dot -Tsvg "$picture"; done
 }
 
-# ---- the program itself
+# ---- the programs themselves
+
+# Without them nothing more can be tried, and each further call would only try again to build them.
+test_built() {
+    call "$root/desk" "$root/tables/owed.table"
+    says "the desk program is built" 0 'k 0 code 0 '
+    [ "$status" -eq 0 ] || finish
+    call "$root/desk" --parts "$root/tables/owed.table" "$root/tables/owed.table"
+    says "the program for two tables is built" 0 'k 0 code 0 '
+    [ "$status" -eq 0 ] || finish
+}
 
 test_tables() {
-    for table in owed silent first night loud; do
+    for table in owed silent first night loud lamp calm; do
         cp "$root/tables/$table.table" "$scratch/$table.table"
         call "$root/desk" --plain "$scratch/$table.table"
         gives "$table: what ./desk --plain says" 0 "$expected/$table.said"
@@ -489,10 +714,56 @@ answers() { # NAME STATUS TEXT..: what ./desk --plain answers for the table in $
 
 changed() { owed_records | sed "$1" >"$asked"; }
 
-test_answers() {
+# The lines of docs/TABLES.md that are set in by four blanks and match a pattern, without the blanks.
+shown() { sed -n "s/^    \\($1\\)\$/\\1/p" "$root/docs/TABLES.md"; }
+
+# What docs/TABLES.md shows is so: its records, its answers, and what it says of its examples with a record changed.
+test_examples() {
+    shown '[1-4] [0-9] [0-9] [0-9] .*' >"$scratch/records"
+    holds "docs/TABLES.md shows records" test -s "$scratch/records"
+    cat "$root/tables/owed.table" "$root/tables/lamp.table" >"$scratch/tables"
+    holds "they are records of OWED and LAMP" test -z "$(grep -vxF -f "$scratch/tables" "$scratch/records")"
+    { grep -v '^A' "$expected/owed.said" && grep -v '^A' "$expected/lamp.said" && cat "$root/crates/both/stdout"; } >"$scratch/answers"
+    shown '\(k [0-9].*\|[0-9]* [0-9]* [0-9]* [0-9]*\)' >"$scratch/shown"
+    holds "docs/TABLES.md shows the answers" cmp "$scratch/answers" "$scratch/shown"
     both_records >"$asked"
-    answers "unrealizable" 1 'k 0 code 1 place 0 rounds 2 winners 2 start 0' 'k 7 code 1 ' \
-        'No controller can be made with patience 0 to 7.'
+    answers "unrealizable" 1 'k 0 code 1 place 0 rounds 2 winners 2 start 0' 'k 7 code 1 ' 'Tried with patience 0 to 7: no controller.'
+    sed 's/^3 2 1 3/3 2 1 1/' "$root/tables/lamp.table" >"$asked"
+    answers "LAMP with a run that comes back" 1 'Tried with patience 0 to 7: no controller.'
+    sed -e '/^4 0 1 0/d' -e '/^4 1 1 1/d' "$root/tables/lamp.table" >"$asked"
+    answers "LAMP without the runs that watch on" 0 'with patience 0 it has'
+    sed '/^4 0 1 0/d' "$root/tables/owed.table" >"$asked"
+    answers "OWED without the run that watches on" 0 'with patience 0 it has 1 state of its own.'
+}
+
+test_joins() {
+    one=$root/tables/owed.table two=$root/tables/silent.table
+    call "$root/desk" --join "$one" "$two"
+    says "a join" 0 "# $one joined with $two." \
+        "# The controller-turn states 0 to 1 are those of $one, and 2 to 3 are 0 to 1 of $two." \
+        "1 2 2 0   # $two, line 10, state 0: controller-turn state 0, the start: there has been no warning" \
+        "3 2 1 3   # $two, line 17, state 0 to 1: no warning so far, and now one"
+    cp "$scratch/out" "$asked"
+    sed -n 's/^\([1-4]\) \(.\) \(.\) \(.\) .*/\1\2\3\4/p' "$asked" >"$scratch/joined"
+    both_records >"$scratch/records"
+    holds "its records are those of the joined table" cmp "$scratch/joined" "$scratch/records"
+    answers "the joined table can be asked about" 1 'k 0 code 1 place 0 rounds 2 winners 2 start 0'
+    call "$root/desk" --parts "$one" "$two"
+    says "by parts" 1 'k 0 code 1 place 0 which 0 rounds 2 winners 2 start 0' 'Tried with patience 0 to 7: no controller.'
+    call "$root/desk" --parts "$scratch/owed.bytes" "$root/tables/lamp.table"
+    says "bytes and text by parts" 1 'k 7 code 1 '
+    call "$root/desk" --parts "$root/tables/lamp.table" "$root/tables/calm.table"
+    { cat "$root/crates/both/stdout" &&
+        echo 'A controller was made: with patience 1 it has 3 states of its own. With less patience none can be made.'; } >"$scratch/said"
+    gives "by parts with patience 1" 0 "$scratch/said"
+    call "$root/desk" --parts "$one" "$root/tables/first.table"
+    says "letters that differ, by parts" 3 'code 13, LETTERS' "$root/tables/first.table has the outputs 0 and the inputs 0."
+    call "$root/desk" --join "$root/tables/loud.table" "$root/tables/loud.table"
+    says "a join with too many states" 3 'code 14, SIZE' 'Together that is 12 controller-turn and 12 world-turn states.'
+    changed 's/^4111/4112/'
+    call "$root/desk" --join "$one" "$asked"
+    says "a fault of the second table" 3 'code 9, EDGE' "The record is 4112, line 13 of $asked (record 12, counted from 0)."
+    holds "no table is written then" test ! -s "$scratch/out"
 }
 
 test_refusals() {
@@ -506,26 +777,26 @@ test_refusals() {
     answers "a record too many" 3 'code 4, LENGTH'
     changed 's/^2110/2120/'
     answers "a flag that the world's states don't have" 3 'code 5, RECORD' \
-        'It is record 3, counted from 0: 2120 (line 4 of the file).'
+        "The record is 2120, line 4 of $asked (record 3, counted from 0)."
     changed 's/^4111/4 1 8 1/'
-    answers "an input over 7" 3 'code 5, RECORD' 'It is record 12, counted from 0: 4181 (line 13 of the file).'
+    answers "an input over 7" 3 'code 5, RECORD' "The record is 4181, line 13 of $asked (record 12, counted from 0)."
     { cat "$scratch/owed.bytes" && printf 'abcd'; } >"$asked"
     answers "bytes and text in one file" 3 'code 5, RECORD' \
-        'It is record 13, counted from 0: 97 98 99 100 (bytes 52 to 55 of the file).' 'taken as plain bytes'
+        "The record is 97 98 99 100, bytes 52 to 55 of $asked (record 13, counted from 0)." 'taken as plain bytes'
     printf '1020\n\000' >"$asked"
     answers "a text with a zero byte" 3 'code 4, LENGTH' 'taken as plain bytes'
     changed 's/^4101/held/; s/^4111/4101/; s/^held/4111/'
     answers "the last two records exchanged" 3 'k 0 code 6 place 12 ' 'code 6, ORDER' \
-        'It is record 12, counted from 0: 4101 (line 13 of the file). Before it stands 4111 (line 12 of the file).'
+        "The record is 4101, line 13 of $asked (record 12, counted from 0)." "Before it stands 4111, line 12."
     changed '/^1020/p'
     answers "a record twice" 3 'code 6, ORDER' \
-        'It is record 1, counted from 0: 1020 (line 2 of the file). Before it stands 1020 (line 1 of the file).'
+        "The record is 1020, line 2 of $asked (record 1, counted from 0)." "Before it stands 1020, line 1."
     changed 's/^1100/1200/'
-    answers "a state left out" 3 'code 7, STATES'
+    answers "a state left out" 3 'code 7, STATES' "the controller-turn state 2 stands where state 1 should be"
     changed 's/^1020/1000/'
-    answers "no start state" 3 'code 8, START'
+    answers "no start state" 3 'code 8, START' 'the controller-turn states are 1000 (line 1), 1100 (line 2)'
     changed 's/^4111/4112/'
-    answers "an edge to nowhere" 3 'code 9, EDGE' 'It is record 12, counted from 0: 4112 (line 13 of the file).'
+    answers "an edge to nowhere" 3 'code 9, EDGE' "The record is 4112, line 13 of $asked (record 12, counted from 0)."
     changed '/^4111/d'
     answers "the last record left out" 3 'k 0 code 10 ' 'code 10, GAP' 'no edge for input 1 (no record begins with 411)'
 }
@@ -535,21 +806,27 @@ make_tree
 make_plain
 test_scripts
 test_card
+test_documents
 test_calls
 test_files
 test_text
 test_bad_text
 test_words
-test_gaps
+test_finds
+test_two
+test_broken_output
 test_building
-test_running
+test_failed_check
+test_broken_off_check TERM
+test_broken_off_check INT
+test_two_at_once
 test_program
 test_pictures
 test_table_pictures
 test_graphviz
+test_built
 test_tables
-test_answers
+test_examples
+test_joins
 test_refusals
-
-printf '%s passed, %s failed\n' "$passed" "$failed"
-[ "$failed" -eq 0 ]
+finish

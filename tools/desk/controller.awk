@@ -1,6 +1,6 @@
-# Reads what the desk program printed and draws the controller as a DOT graph: a node for each state, with its output, and an
-# arrow for the inputs that lead from it to the same next state. The first row names the start. The program writes a state for
-# each winner, so some may never be met from the start; those are dotted.
+# Reads what the desk program printed and draws the controller as a DOT graph: a node for each of its own states, with its output, and
+# an arrow for the inputs that lead from it to the same next state. The first row names the start. A controller has a state for each
+# winner, so some may never be met from the start; those are dotted.
 
 $1 == "k" { next }
 {
@@ -35,7 +35,7 @@ END {
     follow()
     print "digraph controller {"
     print "    rankdir=LR; nodesep=0.4"
-    if (met_count < states) print "    label=\"Dotted: never met from the start.\""
+    printf "    label=\"The controller's own states.%s\"\n", met_count < states ? " Dotted: never met from the start." : ""
     print "    start [shape=plaintext]"
     for (i = 1; i <= states; i++)
         printf "    s%d [label=\"state %d\\noutput %d\"%s]\n", state[i], state[i], output[state[i]], style(state[i])

@@ -1,8 +1,8 @@
-# Reads the records of a table and draws it as a DOT graph, good or not, so that a fault can be seen: the controller's states
-# round, the world's square, marked ones double, an arrow from "start" to each start state, and one arrow from state to state with
-# all its letters. A state that has no record is dotted.
+# Reads the records of a table and draws it as a DOT graph, good or not, so that a fault can be seen: the controller-turn states as
+# ovals, the world-turn states as boxes, marked ones double, an arrow from "start" to each start state, and one arrow from state to
+# state with all its letters. A state that has no record is dotted.
 
-# The node of a state: c and its number on the controller's turn, w and its number on the world's.
+# The node of a state: c and its number for a controller-turn state, w and its number for a world-turn state.
 function node(side, number) { return (side == 1 ? "c" : "w") number }
 
 function meet(side, number) {
@@ -38,7 +38,7 @@ function lacks_record(    state) {
 }
 
 function draw_state(side, number) {
-    printf "    %s [label=\"%s %d\"", node(side, number), side == 1 ? "controller" : "world", number
+    printf "    %s [label=\"%s %d\"", node(side, number), side == 1 ? "controller-turn" : "world-turn", number
     if (side == 2) printf ", shape=box"
     if ((side, number) in marked) printf ", peripheries=2"
     if (!((side, number) in declared)) printf ", style=dotted"
@@ -55,7 +55,7 @@ function draw_arrow(kind, from, to) {
 END {
     print "digraph table {"
     print "    rankdir=LR; nodesep=0.4"
-    printf "    label=\"Round: the controller's turn. Square: the world's turn. Double: marked.%s\"\n", \
+    printf "    label=\"Oval: controller-turn states. Box: world-turn states. Double line: marked.%s\"\n", \
         lacks_record() ? " Dotted: no record." : ""
     if (start_count) print "    start [shape=plaintext]"
     for (i = 1; i <= node_count; i++) {

@@ -1,10 +1,9 @@
--- `main` is safe: the lent buffers keep their lengths from patience to patience, and the rows printed are within the controller buffer. The measure is
--- what is left of the patience counts. Assumes what the kit's `io` assumes of reading and writing.
-use mathlib.Core.Path.{_≡_, sym}
+-- `main` is safe: the lent buffers keep their lengths from patience to patience. The measure is what is left of the patience counts.
+-- Assumes what the kit's `io` assumes of reading and writing.
+use mathlib.Core.Path.{_≡_}
 use Prim.Native.Nat.{_≤_, _-_}
 use borrow.Author.Needs.{needs}
 use lib.ListN.{length}
-use lib.Seq.{length-take-le}
 use Rattle.desk.proofs.main.Statement.{statement}
 use Rattle.desk.proofs.main.Tie as tie
 
@@ -53,20 +52,14 @@ slice-aggregate-read c = search needs
 read-requires : tie.Need-read-requires Inv-loop μ-loop
 read-requires c κs = search needs
 
-bytes-of-rows-requires : tie.Need-bytes-of-rows-requires Inv-loop μ-loop
-bytes-of-rows-requires c κs = search needs
+slice-aggregate-fours : tie.Need-slice-aggregate-fours Inv-loop μ-loop
+slice-aggregate-fours c = search needs
 
-array-share-prefix-controller : tie.Need-array-share-prefix-controller Inv-loop μ-loop
-array-share-prefix-controller c = search needs
+rows-requires : tie.Need-rows-requires Inv-loop μ-loop
+rows-requires c κs = search needs
 
-slice-aggregate-print-rows : tie.Need-slice-aggregate-print-rows Inv-loop μ-loop
-slice-aggregate-print-rows c =
-    let solved = c .before .before .before .before .before .before .before .before .before in
-    let fits : c .before .bytes-of-rows .result ≤ length (solved .solve .last .1 .1 .1 .1 .0) = search needs in
-    sym (length-take-le _ _ fits)
-
-print-rows-requires : tie.Need-print-rows-requires Inv-loop μ-loop
-print-rows-requires c κs = search needs
+fours-requires : tie.Need-fours-requires Inv-loop μ-loop
+fours-requires c κs = search needs
 
 returns : tie.Need-returns Inv-loop μ-loop
 returns c = search needs
@@ -102,10 +95,9 @@ main-spec =
     array-share-prefix-table-2
     slice-aggregate-read
     read-requires
-    bytes-of-rows-requires
-    array-share-prefix-controller
-    slice-aggregate-print-rows
-    print-rows-requires
+    slice-aggregate-fours
+    rows-requires
+    fours-requires
     returns
     add-k
     loop-less
