@@ -1,13 +1,14 @@
 //! The desk program's text: it is run on stored and random tables, and what it prints is held
 //! against what document 01 says that it prints.
 
-use crate::answer::{REALIZABLE, UNREALIZABLE};
-use crate::call::{self, Call, Engine};
-use crate::cases;
-use crate::compare::{digits, written, MOST_PRINTED};
+use crate::calls::solved::{answer, written, MOST_ROOM};
+use crate::calls::solve;
+use crate::compare::{digits, MOST_PRINTED};
 use crate::make::{any_good, changed, damaged, Dice};
 use crate::proved::piped;
-use crate::trials::MOST_ROOM;
+use crate::rules::codes::{REALIZABLE, UNREALIZABLE};
+use crate::rules::read::read;
+use crate::stored::{self, HARD};
 use std::io::{self, Write};
 use std::process::{ChildStdin, Output};
 use std::time::Duration;
@@ -24,8 +25,8 @@ const HARD_EVERY: u64 = 40;
 #[derive(Default)]
 pub struct Desk {
     line: String,
-    pub passed: u32,
-    pub failed: u32,
+    pub passed: u64,
+    pub failed: u64,
     /// The tables whose last line has this code.
     codes: [u32; 15],
 }
@@ -33,17 +34,17 @@ pub struct Desk {
 /// "A line with K and the answer's fields by name, all but which, and after code 0 the rows as
 /// numbers (state, output, input, next)." The code is that of the line.
 fn lines(table: &[u8], patience: u32) -> (String, u32) {
-    let call = Call::solve(table, patience, MOST_ROOM);
-    let engine = if call::fits_plain(&call) { Engine::Plain } else { Engine::Chain };
-    let outcome = call::answer(engine, &call);
-    let answer = outcome.answer().expect("the answer buffer is long enough");
+    let call = solve::call(table, patience, MOST_ROOM);
+    let outcome = (solve::SOLVE.oracles)(&call).swap_remove(0).outcome;
+    let answer = answer(&call, &outcome).expect("the answer buffer is long enough");
     let mut text = format!(
         "k {patience} code {} place {} rounds {} winners {} start {}\n",
         answer.code, answer.place, answer.rounds, answer.winners, answer.start
     );
     if answer.code == REALIZABLE {
-        let [_, length, _] = written(&call, &outcome);
-        for row in outcome.controller[..length].chunks(4) {
+        let good = read(table).expect("a solved table is good");
+        let [_, rows] = written(&call, &good, &outcome);
+        for row in rows.chunks(4) {
             text += &format!("{} {} {} {}\n", row[0], row[1], row[2], row[3]);
         }
     }
@@ -115,7 +116,7 @@ impl Desk {
 
     /// Document 01's own tables, faults, long ones, and one that comes in two pieces.
     pub fn stored(&mut self) -> io::Result<()> {
-        let tables = cases::tables();
+        let tables = stored::tables();
         assert_eq!(expected(&tables[0]).0, OWED_TEXT);
         for table in &tables {
             self.table(table)?;
@@ -128,7 +129,7 @@ impl Desk {
         let mut dice = Dice::new(seed);
         for number in 0..cases {
             let good = any_good(&mut dice);
-            let hard = cases::HARD[dice.below(cases::HARD.len())];
+            let hard = HARD[dice.below(HARD.len())];
             self.table(&match number {
                 _ if number % HARD_EVERY == 0 => changed(&mut dice, hard),
                 _ if number % 4 == 3 => damaged(&mut dice, &good),
