@@ -42,6 +42,10 @@ pub struct Least {
     pub least: u64,
 }
 
+pub const fn least(code: u32, feature: Feature, least: u64) -> Least {
+    Least { code, feature, least }
+}
+
 /// What a check has found: its name, and what is wrong.
 pub type Found = (&'static str, String);
 

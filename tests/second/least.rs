@@ -4,12 +4,15 @@ use crate::calls;
 use crate::laws::{self, FULL_SOMEWHERE, NEVER_FULL};
 use crate::session::Session;
 
-/// A run in the gate, and what it must have explored at least.
+/// So many calls the proved archive must have answered.
+const PROVED: u64 = 40_000;
+
+/// What must have been explored at least.
 const EXPLORED: [(&str, u64); 4] = [
-    ("winners from which a controller was played to the end", 1),
-    ("positions beyond the winners from which the world won", 1),
-    ("starts among them", 1),
-    ("tables of which every position was tried", 1),
+    ("winners from which a controller was played to the end", 9_000),
+    ("positions beyond the winners from which the world won", 300_000),
+    ("starts of unrealizable tables from which it won", 7_000),
+    ("tables of which every position was tried", 6_000),
 ];
 
 /// "  120 of at least 100: what"
@@ -51,7 +54,12 @@ fn explored(session: &mut Session) {
     println!("  broken off as too long: {}", found.broken_off);
 }
 
-pub fn assert(session: &mut Session) {
+/// Of a whole run; whether the proved calls were asked in it.
+pub fn assert(session: &mut Session, proved: bool) {
+    if proved {
+        let answered = session.proved_answers;
+        row(session, answered, PROVED, "calls that the proved archive answered");
+    }
     calls(session);
     laws(session);
     explored(session);

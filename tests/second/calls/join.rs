@@ -1,9 +1,7 @@
 //! `desk_join`: joins two tables.
 
 use super::two::{damaged_pair, joined, notes, pair, read_both};
-use crate::call::{
-    lent, Buffer, Call, Feature, Found, Layout, Least, Lie, Operation, Outcome, Use, Voice, ANY,
-};
+use crate::call::{least, lent, Buffer, Call, Feature, Found, Layout, Least, Lie, Operation, Outcome, Use, Voice, ANY};
 use crate::play::Explored;
 use crate::rules::answer::{Answer, ANSWER_BYTES};
 use crate::rules::codes::*;
@@ -148,8 +146,35 @@ fn short(session: &mut Session) {
     session.put_knowing(&call, "ROOM", |outcome| outcome.result == ROOM);
 }
 
-const fn least(code: u32, feature: Feature, least: u64) -> Least {
-    Least { code, feature, least }
-}
-
-static LEAST: [Least; 1] = [least(REALIZABLE, ANY, 1)];
+static LEAST: [Least; 30] = [
+    least(REALIZABLE, ANY, 4_000),
+    least(REALIZABLE, "a buffer after a wall", 2_000),
+    least(REALIZABLE, "a buffer at any address", 3_000),
+    least(REALIZABLE, "a buffer before a wall", 4_000),
+    least(REALIZABLE, "two tables in the same bytes", 300),
+    least(ROOM, ANY, 500),
+    least(ROOM, "a fault in each table", 30),
+    least(LENGTH, ANY, 200),
+    least(LENGTH, "a fault in each table", 30),
+    least(LENGTH, "a fault in the second table", 90),
+    least(RECORD, ANY, 150),
+    least(RECORD, "a fault in each table", 30),
+    least(RECORD, "a fault in the second table", 50),
+    least(ORDER, ANY, 150),
+    least(ORDER, "a fault in each table", 20),
+    least(ORDER, "a fault in the second table", 70),
+    least(STATES, ANY, 150),
+    least(STATES, "a fault in each table", 30),
+    least(STATES, "a fault in the second table", 60),
+    least(START, ANY, 90),
+    least(START, "a fault in each table", 15),
+    least(START, "a fault in the second table", 30),
+    least(EDGE, ANY, 80),
+    least(EDGE, "a fault in each table", 15),
+    least(EDGE, "a fault in the second table", 30),
+    least(GAP, ANY, 40),
+    least(GAP, "a fault in each table", 10),
+    least(GAP, "a fault in the second table", 15),
+    least(LETTERS, ANY, 150),
+    least(SIZE, ANY, 300),
+];

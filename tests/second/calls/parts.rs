@@ -4,7 +4,7 @@ use super::lies::LIES;
 use super::solve::{refused_room, tight};
 use super::solved::{self, check_room, patience, room, MOST_ROOM};
 use super::two::{damaged_pair, joined, notes, pair, read_both};
-use crate::call::{Call, Feature, Found, Least, Operation, Outcome, Use, Voice, ANY};
+use crate::call::{least, Call, Feature, Found, Least, Operation, Outcome, Use, Voice, ANY};
 use crate::engines::fit_for;
 use crate::make::{good, two_sparse, Letters};
 use crate::play::Explored;
@@ -123,8 +123,10 @@ fn large(session: &mut Session) {
 }
 
 fn faults(session: &mut Session) {
-    let [first, second] = damaged_pair(&mut session.dice);
-    session.put(&call(&first, &second, 0, 8));
+    for _ in 0..6 {
+        let [first, second] = damaged_pair(&mut session.dice);
+        session.put(&call(&first, &second, 0, 8));
+    }
 }
 
 /// K over 7 and too little room, with good tables and bad ones.
@@ -137,8 +139,62 @@ fn short(session: &mut Session) {
     session.put_knowing(&call, "BOUND or ROOM", |outcome| outcome.result == code);
 }
 
-const fn least(code: u32, feature: Feature, least: u64) -> Least {
-    Least { code, feature, least }
-}
-
-static LEAST: [Least; 1] = [least(REALIZABLE, ANY, 1)];
+static LEAST: [Least; 57] = [
+    least(REALIZABLE, ANY, 1_500),
+    least(REALIZABLE, "8 states and 8 letters", 90),
+    least(REALIZABLE, "K over 0", 1_000),
+    least(REALIZABLE, "a buffer after a wall", 1_000),
+    least(REALIZABLE, "a buffer at any address", 1_000),
+    least(REALIZABLE, "a buffer before a wall", 1_500),
+    least(REALIZABLE, "by both engines", 1_000),
+    least(REALIZABLE, "room tight", 200),
+    least(REALIZABLE, "several edges for a letter", 1_000),
+    least(REALIZABLE, "several winners", 900),
+    least(REALIZABLE, "two tables in the same bytes", 150),
+    least(UNREALIZABLE, ANY, 2_000),
+    least(UNREALIZABLE, "8 states and 8 letters", 200),
+    least(UNREALIZABLE, "K over 0", 1_000),
+    least(UNREALIZABLE, "by both engines", 2_000),
+    least(UNREALIZABLE, "room tight", 500),
+    least(UNREALIZABLE, "several edges for a letter", 2_000),
+    least(UNREALIZABLE, "two tables in the same bytes", 100),
+    least(UNREALIZABLE, "winners beyond the bottom one", 2_000),
+    least(BOUND, ANY, 100),
+    least(BOUND, "K over 7 and too little room", 50),
+    least(BOUND, "a fault in each table", 5),
+    least(ROOM, ANY, 150),
+    least(ROOM, "a fault in each table", 10),
+    least(LENGTH, ANY, 300),
+    least(LENGTH, "a fault in each table", 40),
+    least(LENGTH, "a fault in the second table", 100),
+    least(RECORD, ANY, 200),
+    least(RECORD, "a fault in each table", 40),
+    least(RECORD, "a fault in the second table", 80),
+    least(ORDER, ANY, 200),
+    least(ORDER, "a fault in each table", 30),
+    least(ORDER, "a fault in the second table", 100),
+    least(STATES, ANY, 200),
+    least(STATES, "a fault in each table", 40),
+    least(STATES, "a fault in the second table", 100),
+    least(START, ANY, 100),
+    least(START, "a fault in each table", 20),
+    least(START, "a fault in the second table", 50),
+    least(EDGE, ANY, 100),
+    least(EDGE, "a fault in each table", 20),
+    least(EDGE, "a fault in the second table", 40),
+    least(GAP, ANY, 70),
+    least(GAP, "a fault in each table", 20),
+    least(GAP, "a fault in the second table", 20),
+    least(FULL, ANY, 1_000),
+    least(FULL, "8 states and 8 letters", 100),
+    least(FULL, "K over 0", 600),
+    least(FULL, "by both engines", 700),
+    least(FULL, "full in the last stage", 150),
+    least(FULL, "full in the list of pairs", 150),
+    least(FULL, "full while the first is solved alone", 300),
+    least(FULL, "full while the second is solved alone", 300),
+    least(FULL, "room one less", 700),
+    least(FULL, "several edges for a letter", 800),
+    least(LETTERS, ANY, 200),
+    least(SIZE, ANY, 40),
+];

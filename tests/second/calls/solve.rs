@@ -2,7 +2,7 @@
 
 use super::lies::LIES;
 use super::solved::{self, check_room, patience, room, with_room, MOST_ROOM};
-use crate::call::{Call, Feature, Found, Least, Operation, Outcome, Use, Voice, ANY};
+use crate::call::{least, Call, Feature, Found, Least, Operation, Outcome, Use, Voice, ANY};
 use crate::engines::fit_for;
 use crate::play::Explored;
 use crate::make::{any_good, changed, damaged, dense, two_faults};
@@ -70,8 +70,7 @@ fn draw(session: &mut Session) {
         0..=2 => ladder(session),
         3 => any_room(session),
         4 => dense_table(session),
-        5 => fault(session),
-        6 => faults(session),
+        5 | 6 => faults(session),
         7 => short(session),
         _ => damaged_and_short(session),
     }
@@ -123,17 +122,15 @@ fn dense_table(session: &mut Session) {
     tight(session, &first, &ample);
 }
 
-fn fault(session: &mut Session) {
-    let table = any_good(&mut session.dice);
-    let spoilt = damaged(&mut session.dice, &table);
-    session.put(&call(&spoilt, 0, 4));
-}
-
-/// Two faults at once: the order of the checks decides.
+/// One fault, or two at once: then the order of the checks decides.
 fn faults(session: &mut Session) {
     let table = any_good(&mut session.dice);
-    let spoilt = two_faults(&mut session.dice, &table);
-    session.put(&call(&spoilt, 0, 4).noted("two faults at once"));
+    for _ in 0..3 {
+        let spoilt = damaged(&mut session.dice, &table);
+        session.put(&call(&spoilt, 0, 4));
+        let spoilt = two_faults(&mut session.dice, &table);
+        session.put(&call(&spoilt, 0, 4).noted("two faults at once"));
+    }
 }
 
 /// Buffers too short by one, no room or too much of it, K over 7.
@@ -189,12 +186,51 @@ fn hard(session: &mut Session) {
     tight(session, &call, &outcome);
 }
 
-const fn least(code: u32, feature: Feature, least: u64) -> Least {
-    Least { code, feature, least }
-}
-
 /// NOTHING isn't here: the position without any run stays without runs, so some position always wins.
-static LEAST: [Least; 2] = [
-    least(REALIZABLE, ANY, 1),
-    least(UNREALIZABLE, ANY, 1),
+static LEAST: [Least; 45] = [
+    least(REALIZABLE, ANY, 2_000),
+    least(REALIZABLE, "8 states and 8 letters", 150),
+    least(REALIZABLE, "K over 0", 1_500),
+    least(REALIZABLE, "a buffer after a wall", 1_500),
+    least(REALIZABLE, "a buffer at any address", 1_500),
+    least(REALIZABLE, "a buffer before a wall", 2_000),
+    least(REALIZABLE, "by both engines", 2_000),
+    least(REALIZABLE, "room tight", 300),
+    least(REALIZABLE, "several edges for a letter", 1_000),
+    least(REALIZABLE, "several starts", 1_500),
+    least(REALIZABLE, "several winners", 1_000),
+    least(UNREALIZABLE, ANY, 4_000),
+    least(UNREALIZABLE, "8 states and 8 letters", 300),
+    least(UNREALIZABLE, "K over 0", 2_000),
+    least(UNREALIZABLE, "by both engines", 3_000),
+    least(UNREALIZABLE, "room tight", 200),
+    least(UNREALIZABLE, "several edges for a letter", 3_000),
+    least(UNREALIZABLE, "several starts", 2_000),
+    least(UNREALIZABLE, "winners beyond the bottom one", 2_000),
+    least(BOUND, ANY, 200),
+    least(BOUND, "K over 7 and too little room", 100),
+    least(BOUND, "with a damaged table", 100),
+    least(ROOM, ANY, 300),
+    least(ROOM, "with a damaged table", 100),
+    least(LENGTH, ANY, 700),
+    least(LENGTH, "two faults at once", 400),
+    least(RECORD, ANY, 500),
+    least(RECORD, "two faults at once", 200),
+    least(ORDER, ANY, 500),
+    least(ORDER, "two faults at once", 300),
+    least(STATES, ANY, 500),
+    least(STATES, "two faults at once", 200),
+    least(START, ANY, 300),
+    least(START, "two faults at once", 100),
+    least(EDGE, ANY, 200),
+    least(EDGE, "two faults at once", 90),
+    least(GAP, ANY, 150),
+    least(GAP, "two faults at once", 6),
+    least(FULL, ANY, 600),
+    least(FULL, "8 states and 8 letters", 200),
+    least(FULL, "K over 0", 500),
+    least(FULL, "by both engines", 500),
+    least(FULL, "room one less", 500),
+    least(FULL, "several edges for a letter", 500),
+    least(FULL, "several starts", 300),
 ];

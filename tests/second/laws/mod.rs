@@ -23,10 +23,10 @@ pub struct Law {
 }
 
 pub const ALL: [Law; 4] = [
-    Law { name: "by parts and afresh", draw: afresh::draw, least: 1 },
-    Law { name: "grouped", draw: grouped::draw, least: 1 },
-    Law { name: "swapped", draw: swapped::draw, least: 1 },
-    Law { name: "with itself", draw: itself::draw, least: 1 },
+    Law { name: "by parts and afresh", draw: afresh::draw, least: 500 },
+    Law { name: "grouped", draw: grouped::draw, least: 300 },
+    Law { name: "swapped", draw: swapped::draw, least: 1_000 },
+    Law { name: "with itself", draw: itself::draw, least: 500 },
 ];
 
 /// The join of two tables, where it can be made.
