@@ -135,8 +135,10 @@ fn benchmark(words: &[&str]) -> Result<ExitCode, String> {
     if !print_seconds(&options) {
         return Ok(ExitCode::from(1));
     }
-    let calls =
-        [(stack::SINK_AND_SOLVE, "solve, work"), (stack::SINK_AND_PARTS, "by parts, OWED with itself")];
+    let calls = [
+        (stack::SINK_AND_SOLVE, "solve, work"),
+        (stack::SINK_AND_PARTS, "by parts, OWED with itself"),
+    ];
     for (word, what) in calls {
         let bytes =
             stack::needed(word).map_err(|error| format!("the stack wasn't measured: {error}"))?;

@@ -1,8 +1,8 @@
 //! The desk program's text: it is run on stored and random tables, and what it prints is held
 //! against what document 01 says that it prints.
 
-use crate::calls::solved::{answer, written, MOST_ROOM};
 use crate::calls::solve;
+use crate::calls::solved::{answer, written, MOST_ROOM};
 use crate::compare::{digits, MOST_PRINTED};
 use crate::make::{any_good, changed, damaged, Dice};
 use crate::proved::piped;

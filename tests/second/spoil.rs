@@ -214,7 +214,13 @@ impl Control {
     }
 
     /// A law is told something else of one call, and has to fail now and then: not every change breaks it.
-    fn law(&mut self, law: &Law, name: &str, operation: &'static str, way: fn(&Call, &mut Outcome)) {
+    fn law(
+        &mut self,
+        law: &Law,
+        name: &str,
+        operation: &'static str,
+        way: fn(&Call, &mut Outcome),
+    ) {
         self.session.failed = 0;
         for _ in 0..200 {
             self.session.bend = Some(once(operation, way));

@@ -81,7 +81,12 @@ fn printed(case: &Case) -> String {
             let answer = answer(name_of_code, fields);
             text += &format!(
                 "\n{name} code {} place {} which {} rounds {} winners {} start {}\n",
-                answer.code, answer.place, answer.which, answer.rounds, answer.winners, answer.start
+                answer.code,
+                answer.place,
+                answer.which,
+                answer.rounds,
+                answer.winners,
+                answer.start
             );
         }
     }
@@ -193,7 +198,8 @@ fn of_hard_tables(session: &mut Session) {
 /// hard ones, and lengths about the longest.
 pub fn tables() -> Vec<Vec<u8>> {
     let vectors = Vectors::read(VECTORS);
-    let mut tables = ["OWED", "SILENT", "FIRST", "OWED_SILENT"].map(|name| vectors.table(name)).to_vec();
+    let mut tables =
+        ["OWED", "SILENT", "FIRST", "OWED_SILENT"].map(|name| vectors.table(name)).to_vec();
     for case in vectors.cases.iter().filter(|case| case.name.starts_with("fault")) {
         if let Part::Read(bytes) = &case.parts[0] {
             tables.push(bytes.clone());

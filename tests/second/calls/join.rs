@@ -1,7 +1,10 @@
 //! `desk_join`: joins two tables.
 
 use super::two::{damaged_pair, joined, notes, pair, read_both};
-use crate::call::{least, lent, Buffer, Call, Feature, Found, Layout, Least, Lie, Operation, Outcome, Use, Voice, ANY};
+use crate::call::{
+    least, lent, Buffer, Call, Feature, Found, Layout, Least, Lie, Operation, Outcome, Use, Voice,
+    ANY,
+};
 use crate::play::Explored;
 use crate::rules::answer::{Answer, ANSWER_BYTES};
 use crate::rules::codes::*;

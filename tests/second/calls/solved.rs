@@ -49,7 +49,8 @@ pub fn check_room(call: &Call) -> Result<(), Answer> {
     }
     let short = |name: &str, least: usize| call.bytes(name).len() < least;
     let room = room(call) as usize;
-    if short("winners", 8 * room) || short("controller", 32 * room) || short("answer", ANSWER_BYTES) {
+    if short("winners", 8 * room) || short("controller", 32 * room) || short("answer", ANSWER_BYTES)
+    {
         return refused(ROOM);
     }
     Ok(())

@@ -39,7 +39,8 @@ pub struct Explored {
 }
 
 /// The checks of a claim.
-pub const CHECKS: [&str; 4] = ["the list", "the rows", "the controller played", "the world playing"];
+pub const CHECKS: [&str; 4] =
+    ["the list", "the rows", "the controller played", "the world playing"];
 
 /// What is wrong with a claim, by each check. The others look at nothing but a list of the right form.
 pub fn faults(claim: &Claim, rounds: Option<&dyn Rounds>, explored: &mut Explored) -> Vec<Found> {

@@ -24,7 +24,8 @@ fn rows_of(claim: &Claim, place: usize) -> Option<Vec<u8>> {
     let outputs = 0..claim.table.controller.letters;
     let (output, next) =
         outputs.into_iter().find_map(|output| Some((output, led_back(claim, winner, output)?)))?;
-    let row = |(input, next): (usize, &usize)| [place as u8, output as u8, input as u8, *next as u8];
+    let row =
+        |(input, next): (usize, &usize)| [place as u8, output as u8, input as u8, *next as u8];
     Some(next.iter().enumerate().flat_map(row).collect())
 }
 

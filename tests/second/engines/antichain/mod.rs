@@ -76,7 +76,11 @@ impl Game {
 
     /// Ascending lists of maximal members are equal exactly if their sets are. Each W is shown to
     /// `each` before its round.
-    fn settle(&mut self, first: Vec<Position>, mut each: impl FnMut(&[Position])) -> Option<Winning> {
+    fn settle(
+        &mut self,
+        first: Vec<Position>,
+        mut each: impl FnMut(&[Position]),
+    ) -> Option<Winning> {
         let mut list = first;
         self.fits(&list)?;
         list.sort_unstable();

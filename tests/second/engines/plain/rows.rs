@@ -8,7 +8,9 @@ impl Game {
     /// "Maximal members only, ascending as byte strings": a byte is a count and one more.
     fn listed(&self, set: &[bool]) -> Vec<usize> {
         let mut list: Vec<usize> = self.controller.maximal(set).collect();
-        list.sort_by_key(|number| self.controller.positions[*number].map(|count| (count + 1) as u8));
+        list.sort_by_key(|number| {
+            self.controller.positions[*number].map(|count| (count + 1) as u8)
+        });
         list
     }
 
