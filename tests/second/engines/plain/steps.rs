@@ -8,10 +8,12 @@ use crate::rules::table::{Position, Side};
 fn forward(position: &Position, letter: usize, from: &Side, to: &Side, patience: i8) -> Position {
     let mut after = [-1; 8];
     for left in (0..from.states).filter(|left| position[*left] != -1) {
-        let targets = from.targets[left][letter];
-        for entered in (0..to.states).filter(|entered| targets >> entered & 1 == 1) {
+        let mut targets = from.targets[left][letter];
+        while targets != 0 {
+            let entered = targets.trailing_zeros() as usize;
             let count = (position[left] + to.marks[entered]).min(patience + 1);
             after[entered] = count.max(after[entered]);
+            targets &= targets - 1;
         }
     }
     after
