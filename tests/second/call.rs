@@ -61,6 +61,8 @@ pub const ANY: Feature = "";
 /// All that is known of one call: one file in calls/ for each.
 pub struct Operation {
     pub name: &'static str,
+    /// The program that answers for its archive.
+    pub server: &'static str,
     pub numbers: &'static [&'static str],
     pub buffers: &'static [(&'static str, Use)],
     /// What each oracle says to a call, at least one.

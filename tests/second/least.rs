@@ -2,6 +2,7 @@
 
 use crate::calls;
 use crate::laws::{self, FULL_SOMEWHERE, NEVER_FULL};
+use crate::rules::codes::name;
 use crate::session::Session;
 
 /// So many calls the proved archive must have answered.
@@ -27,8 +28,8 @@ fn calls(session: &mut Session) {
         for least in operation.least {
             let key = (operation.name, least.code, least.feature);
             let found = session.seen.get(&key).copied().unwrap_or(0);
-            let code = crate::rules::codes::NAMES[least.code as usize];
-            let what = [code, least.feature].join(if least.feature.is_empty() { "" } else { ", " });
+            let comma = if least.feature.is_empty() { "" } else { ", " };
+            let what = [&name(least.code), comma, least.feature].concat();
             row(session, found, least.least, &what);
         }
     }

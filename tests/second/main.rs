@@ -6,11 +6,11 @@
 //!     rustc --edition 2021 -O -o target/second tests/second/main.rs
 //!
 //!     second                        the stored cases and a fixed number of random ones
-//!     second --calls 'tools/program serve'
-//!                                   with the proved calls, as target/bin/serve answers them
-//!     second --calls 'tools/program serve' --seed 7 --cases 200000
+//!     second --calls tools/program
+//!                                   with the proved calls, as 'tools/program serve' answers them
+//!     second --calls tools/program --seed 7 --cases 200000
 //!                                   a long run: another seed, another number
-//!     second --calls 'tools/program serve' --spoil
+//!     second --calls tools/program --spoil
 //!                                   the negative control: spoilt answers, each of which must be caught
 //!     second --desk 'tools/program desk' --cases 100
 //!                                   the desk program's text, on stored tables and 100 others
@@ -45,7 +45,7 @@ const DESK_CASES: u64 = 200;
 /// How many passed and how many failed.
 type Count = (u64, u64);
 
-/// Calls and laws take turns: three calls of each kind to one law.
+/// Calls and laws take turns: three draws of calls to one of laws.
 fn run(session: &mut Session, cases: u64) {
     stored::run(session);
     // What came up is counted from here: random calls have to reach it without the stored ones.
@@ -53,15 +53,15 @@ fn run(session: &mut Session, cases: u64) {
     for number in 0..cases as usize {
         match number % 4 {
             0 => (laws::ALL[number / 4 % laws::ALL.len()].draw)(session),
-            _ => (calls::ALL[number % calls::ALL.len()].draw)(session),
+            _ => (calls::ALL[(number - number / 4 - 1) % calls::ALL.len()].draw)(session),
         }
     }
 }
 
-fn compare_calls(options: &Options) -> io::Result<Count> {
+fn compare_calls(options: &Options) -> Count {
     let cases = options.cases.unwrap_or(CASES);
     println!("seed {} cases {cases}", options.seed);
-    let proved = options.calls.as_deref().map(|line| Proved::start(line, false)).transpose()?;
+    let proved = options.calls.as_deref().map(|line| Proved::new(line, false));
     let mut session = Session::new(options.seed, proved);
     run(&mut session, cases);
     session.end();
@@ -72,7 +72,7 @@ fn compare_calls(options: &Options) -> io::Result<Count> {
         print_seen(&session);
     }
     println!("calls answered by the proved calls: {}", session.proved_answers);
-    Ok((session.passed, session.failed))
+    (session.passed, session.failed)
 }
 
 /// All that came up, for whoever sets the least numbers.
@@ -95,8 +95,8 @@ fn compare_desk(line: &str, options: &Options) -> io::Result<Count> {
 fn compare(options: &Options) -> io::Result<Count> {
     match (&options.desk, &options.calls) {
         (Some(line), _) => compare_desk(line, options),
-        (None, Some(line)) if options.spoil => spoil::run(line, options.seed),
-        _ => compare_calls(options),
+        (None, Some(line)) if options.spoil => Ok(spoil::run(line, options.seed)),
+        _ => Ok(compare_calls(options)),
     }
 }
 

@@ -14,6 +14,7 @@ use crate::session::{Session, EXACT};
 
 pub static JOIN: Operation = Operation {
     name: "join",
+    server: "serve",
     numbers: &[],
     buffers: &[
         ("first", Use::Read),

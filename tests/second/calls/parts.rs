@@ -16,6 +16,7 @@ use crate::session::Session;
 
 pub static PARTS: Operation = Operation {
     name: "parts",
+    server: "serve",
     numbers: &["K", "N"],
     buffers: &[
         ("first", Use::Read),

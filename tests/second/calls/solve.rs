@@ -15,6 +15,7 @@ use crate::stored::HARD;
 
 pub static SOLVE: Operation = Operation {
     name: "solve",
+    server: "serve",
     numbers: &["K", "N"],
     buffers: &[
         ("table", Use::Read),

@@ -34,3 +34,8 @@ pub const NAMES: [&str; 15] = [
     "LETTERS",
     "SIZE",
 ];
+
+/// A code by its name, and a number that is none as it is.
+pub fn name(code: u32) -> String {
+    NAMES.get(code as usize).map_or(code.to_string(), |name| name.to_string())
+}
