@@ -14,6 +14,12 @@
 //!                                   the negative control: spoilt answers, each of which must be caught
 //!     second --desk 'tools/program desk' --cases 100
 //!                                   the desk program's text, on stored tables and 100 others
+//!
+//! rules/ is what the document says of records, marks, starts and answers; engines/ solves, in two ways;
+//! play/ plays what was solved, both sides; call.rs says what a call is and calls/ has one file for each;
+//! laws/ is demand 3; make/ draws tables; session.rs puts calls and counts; spoil/ is the negative control.
+//! A new call is a file in calls/, its line in calls/mod.rs and its wrapper in tests/c, in the operations
+//! of its archive.
 
 mod call;
 mod calls;
