@@ -9,6 +9,7 @@ use crate::proved::piped;
 use crate::rules::codes::{REALIZABLE, UNREALIZABLE};
 use crate::rules::read::read;
 use crate::stored::{self, HARD};
+use std::collections::BTreeMap;
 use std::io::{self, Write};
 use std::process::{ChildStdin, Output};
 use std::time::Duration;
@@ -28,7 +29,7 @@ pub struct Desk {
     pub passed: u64,
     pub failed: u64,
     /// The tables whose last line has this code.
-    codes: [u32; 15],
+    codes: BTreeMap<u32, u32>,
 }
 
 /// "A line with K and the answer's fields by name, all but which, and after code 0 the rows as
@@ -99,7 +100,7 @@ impl Desk {
     fn pieces(&mut self, pieces: &[&[u8]]) -> io::Result<()> {
         let table = pieces.concat();
         let (text, code) = expected(&table);
-        self.codes[code as usize] += 1;
+        *self.codes.entry(code).or_default() += 1;
         let output = run(&self.line, pieces)?;
         let printed = String::from_utf8_lossy(&output.stdout);
         if output.status.success() && printed == text {
@@ -141,7 +142,7 @@ impl Desk {
 
     pub fn print(&self) {
         println!("tables put to the desk program {}", self.passed + self.failed);
-        for (code, number) in self.codes.iter().enumerate().filter(|(_, number)| **number > 0) {
+        for (code, number) in &self.codes {
             println!("  code {code} last: {number}");
         }
     }
