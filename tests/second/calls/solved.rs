@@ -5,7 +5,7 @@ use crate::call::{lent, Buffer, Call, Feature, Found, Layout, Operation, Outcome
 use crate::engines::{Engine, Settled, Stage, Stop};
 use crate::play::{self, Claim, Explored};
 use crate::rules::answer::{Answer, ANSWER_BYTES};
-use crate::rules::codes::{BOUND, REALIZABLE, ROOM, UNREALIZABLE};
+use crate::rules::codes::{BOUND, FULL, REALIZABLE, ROOM, UNREALIZABLE};
 use crate::rules::table::{Position, Table};
 
 pub const MOST_ROOM: u32 = 256;
@@ -77,12 +77,13 @@ pub fn refused(call: &Call, answer: Answer) -> Outcome {
 
 fn stopped(call: &Call, stop: Stop) -> Outcome {
     let mut outcome = refused(call, Answer::refusal(stop.code, 0, stop.which()));
-    outcome.notes.push(match stop.stage {
-        Stage::Only => "full",
-        Stage::FirstAlone => "full while the first is solved alone",
-        Stage::SecondAlone => "full while the second is solved alone",
-        Stage::Pairs => "full in the list of pairs",
-        Stage::Last => "full in the last stage",
+    outcome.notes.extend(match stop.stage {
+        _ if stop.code != FULL => None,
+        Stage::Only => None,
+        Stage::FirstAlone => Some("full while the first is solved alone"),
+        Stage::SecondAlone => Some("full while the second is solved alone"),
+        Stage::Pairs => Some("full in the list of pairs"),
+        Stage::Last => Some("full in the last stage"),
     });
     outcome
 }
