@@ -22,16 +22,8 @@ fn difference(call: &Call, first: &Outcome, other: &Outcome) -> Option<String> {
         .then(|| format!("the largest set: {} and {}", first.largest, other.largest))
 }
 
-/// A buffer that is only read stays as it was.
-fn changed_buffer(call: &Call, outcome: &Outcome) -> Option<String> {
-    let uses = call.operation.buffers.iter();
-    let mut read = uses.enumerate().filter(|(_, (_, used))| *used == Use::Read);
-    let changed = read.find(|(place, _)| outcome.buffers[*place] != call.buffers[*place].bytes);
-    changed.map(|(_, (name, _))| format!("the call has changed {name}, which it only reads"))
-}
-
-/// What is wrong with the answers to a call, if anything is: the first in which two differ, a read
-/// buffer that has changed, or what the call's own property finds.
+/// What is wrong with the answers to a call, if anything is: the first in which two differ, or what the
+/// call's own property finds. The oracles leave a buffer that is only read as it was.
 pub fn fault(call: &Call, voices: &[Voice], explored: &mut Explored) -> Option<String> {
     let first = &voices[0];
     for other in &voices[1..] {
@@ -39,10 +31,8 @@ pub fn fault(call: &Call, voices: &[Voice], explored: &mut Explored) -> Option<S
             return Some(format!("{} and {} differ in {what}", first.name, other.name));
         }
     }
-    changed_buffer(call, &first.outcome).or_else(|| {
-        let found = (call.operation.property)(call, &first.outcome, explored);
-        found.into_iter().next().map(|(check, reason)| format!("{check}: {reason}"))
-    })
+    let found = (call.operation.property)(call, &first.outcome, explored);
+    found.into_iter().next().map(|(check, reason)| format!("{check}: {reason}"))
 }
 
 /// One digit a byte, as document 01 writes tables; two in base 16 where a byte is over 9.

@@ -27,8 +27,10 @@ pub struct Session {
     pub spoil: Option<Change>,
     /// Changes what all agreed in, as a fault of all would.
     pub bend: Option<Change>,
-    /// Whether faults are printed.
+    /// Whether faults are kept to itself.
     pub quiet: bool,
+    /// How often each statement that is no call's was broken.
+    pub broken: BTreeMap<String, u64>,
 }
 
 impl Session {
@@ -45,6 +47,7 @@ impl Session {
             spoil: None,
             bend: None,
             quiet: false,
+            broken: BTreeMap::new(),
         }
     }
 
@@ -158,6 +161,7 @@ impl Session {
             self.passed += 1;
         } else {
             self.failed += 1;
+            *self.broken.entry(what.to_string()).or_default() += 1;
             if !self.quiet {
                 println!("FAILED: {what}");
             }

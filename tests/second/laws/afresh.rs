@@ -10,6 +10,8 @@ use crate::calls::two::pair;
 use crate::calls::{parts, solve};
 use crate::session::Session;
 
+pub const SAYS: [&str; 1] = ["by parts and afresh give the same but for the rounds"];
+
 pub fn draw(session: &mut Session) {
     let [first, second] = pair(&mut session.dice);
     let Some(whole) = joined(session, &first, &second) else { return };
@@ -23,7 +25,7 @@ pub fn draw(session: &mut Session) {
         return;
     }
     let same = same_but_rounds((&by_parts, &found), (&afresh, &again));
-    session.hold("by parts and afresh give the same but for the rounds", same);
+    session.hold(SAYS[0], same);
 }
 
 /// The rounds "are those of the last stage", so they may differ.

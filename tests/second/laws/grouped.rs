@@ -5,6 +5,8 @@ use crate::calls::join;
 use crate::make::{good, letters};
 use crate::session::Session;
 
+pub const SAYS: [&str; 1] = ["grouped either way, a join has equal bytes"];
+
 pub fn draw(session: &mut Session) {
     let letters = letters(&mut session.dice);
     let [one, two, three] = [0, 1, 2].map(|_| good(&mut session.dice, letters, 3));
@@ -12,8 +14,7 @@ pub fn draw(session: &mut Session) {
     let Some(left) = left else { return };
     let Some(both) = joined(session, &two, &three) else { return };
     let call = join::call(&one, &both);
-    let right = session.put_knowing(&call, "equal bytes in either grouping", |outcome| {
-        join::out(&call, outcome) == Some(&left)
-    });
+    let right = session.put(&call);
+    session.hold(SAYS[0], join::out(&call, &right) == Some(&left));
     full(session, "grouped", &[&right]);
 }

@@ -7,6 +7,9 @@ use crate::calls::{parts, solve};
 use crate::make::{good, letters};
 use crate::session::Session;
 
+pub const SAYS: [&str; 2] =
+    ["joined with itself it has its own verdict", "by parts with itself it has its own verdict"];
+
 pub fn draw(session: &mut Session) {
     let letters = letters(&mut session.dice);
     let most = [3, 3, 4][session.dice.below(3)];
@@ -19,6 +22,6 @@ pub fn draw(session: &mut Session) {
     if full(session, "with itself", &[&own, &both, &halves]) {
         return;
     }
-    session.hold("joined with itself it has its own verdict", both.result == own.result);
-    session.hold("by parts with itself it has its own verdict", halves.result == own.result);
+    session.hold(SAYS[0], both.result == own.result);
+    session.hold(SAYS[1], halves.result == own.result);
 }

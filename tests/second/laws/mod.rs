@@ -18,15 +18,17 @@ pub const NEVER_FULL: Feature = "never FULL";
 pub struct Law {
     pub name: &'static str,
     pub draw: fn(&mut Session),
+    /// What it says of its calls.
+    pub says: &'static [&'static str],
     /// So many times at least none of its calls was FULL.
     pub least: u64,
 }
 
 pub const ALL: [Law; 4] = [
-    Law { name: "by parts and afresh", draw: afresh::draw, least: 500 },
-    Law { name: "grouped", draw: grouped::draw, least: 300 },
-    Law { name: "swapped", draw: swapped::draw, least: 1_000 },
-    Law { name: "with itself", draw: itself::draw, least: 500 },
+    Law { name: "by parts and afresh", draw: afresh::draw, says: &afresh::SAYS, least: 500 },
+    Law { name: "grouped", draw: grouped::draw, says: &grouped::SAYS, least: 300 },
+    Law { name: "swapped", draw: swapped::draw, says: &swapped::SAYS, least: 1_000 },
+    Law { name: "with itself", draw: itself::draw, says: &itself::SAYS, least: 500 },
 ];
 
 /// The join of two tables, where it can be made.

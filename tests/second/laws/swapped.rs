@@ -1,7 +1,6 @@
 //! "Joining may be ... swapped with only the states renumbered": bytes, verdict, rounds and winners.
 
 use super::{full, joined, winners};
-use crate::call::{Call, Outcome};
 use crate::calls::parts::any_patience;
 use crate::calls::solved::answer;
 use crate::calls::two::pair;
@@ -10,6 +9,13 @@ use crate::rules::read::read;
 use crate::rules::record::{records, Record};
 use crate::rules::table::Table;
 use crate::session::Session;
+
+pub const SAYS: [&str; 4] = [
+    "swapped, a join has the same bytes, states renumbered",
+    "swapped, it has the same code",
+    "swapped, it takes the same rounds",
+    "swapped, it has the same winners, states renumbered",
+];
 
 /// A number of a joined table's side when the halves change places: those of the first half, so many,
 /// come after those of the second.
@@ -47,13 +53,6 @@ fn renumbered_winners(mut list: Vec<[u8; 8]>, first: usize, second: usize) -> Ve
     list
 }
 
-/// Code, rounds and winners, the latter as if the halves had changed places.
-fn found(call: &Call, outcome: &Outcome, first: usize, second: usize) -> (u32, u32, Vec<[u8; 8]>) {
-    let rounds = answer(call, outcome).map_or(0, |answer| answer.rounds);
-    let list = renumbered_winners(winners(call, outcome), first, second);
-    (outcome.result, rounds, list)
-}
-
 /// The number of sets' members doesn't change either: one is FULL exactly if the other is.
 pub fn draw(session: &mut Session) {
     let [first, second] = pair(&mut session.dice);
@@ -61,7 +60,7 @@ pub fn draw(session: &mut Session) {
     let Some(whole) = joined(session, &first, &second) else { return };
     let Some(swapped) = joined(session, &second, &first) else { return };
     let bytes = renumbered_table(&whole, &one, &other) == swapped;
-    session.hold("swapped, a join has the same bytes, states renumbered", bytes);
+    session.hold(SAYS[0], bytes);
     let patience = any_patience(session);
     let room = [256, 256, 3, 6][session.dice.below(4)];
     let pairs = [
@@ -74,8 +73,11 @@ pub fn draw(session: &mut Session) {
     for [call, turned] in pairs {
         let (given, after) = (session.put(&call), session.put(&turned));
         full(session, "swapped", &[&given, &after]);
-        let halves = (one.controller.states, other.controller.states);
-        let same = found(&call, &given, halves.0, halves.1) == found(&turned, &after, 8, 0);
-        session.hold("swapped, the same code, rounds and winners, states renumbered", same);
+        session.hold(SAYS[1], given.result == after.result);
+        let rounds = |call, outcome| answer(call, outcome).map(|answer| answer.rounds);
+        session.hold(SAYS[2], rounds(&call, &given) == rounds(&turned, &after));
+        let (first, second) = (one.controller.states, other.controller.states);
+        let list = renumbered_winners(winners(&call, &given), first, second);
+        session.hold(SAYS[3], list == winners(&turned, &after));
     }
 }

@@ -45,14 +45,19 @@ fn bend_join(call: &Call, outcome: &mut Outcome) {
     flip_byte(call, outcome, "out", 2);
 }
 
+fn turn_rounds(call: &Call, outcome: &mut Outcome) {
+    flip_byte(call, outcome, "answer", 12);
+}
+
 /// The law, what it is told otherwise, and of which call.
-const TOLD: [(&str, &str, &str, Way); 10] = [
+const TOLD: [(&str, &str, &str, Way); 11] = [
     ("by parts and afresh", "the verdict", "solve", turn_verdict),
     ("by parts and afresh", "a winner", "parts", bend_winner),
     ("by parts and afresh", "a row", "parts", bend_row),
     ("grouped", "a byte", "join", bend_join),
     ("swapped", "a byte", "join", bend_join),
     ("swapped", "the verdict", "solve", turn_verdict),
+    ("swapped", "the rounds", "parts", turn_rounds),
     ("swapped", "a winner", "solve", bend_winner),
     ("swapped", "a winner", "parts", bend_winner),
     ("with itself", "the verdict", "solve", turn_verdict),
@@ -60,12 +65,16 @@ const TOLD: [(&str, &str, &str, Way); 10] = [
 ];
 
 impl Control {
+    /// Each change has to be noticed, and each thing that a law says has to have been found broken.
     pub fn laws(&mut self) {
         for law in laws::ALL {
-            let told = TOLD.iter().filter(|told| told.0 == law.name);
-            self.hold(format!("{}, told nothing", law.name), told.clone().count() > 0);
-            for (_, name, operation, way) in told {
+            self.session.broken.clear();
+            for (_, name, operation, way) in TOLD.iter().filter(|told| told.0 == law.name) {
                 self.law(&law, name, operation, *way);
+            }
+            for says in law.says {
+                let broken = self.session.broken.get(*says).copied().unwrap_or(0);
+                self.hold(format!("{}: never broken: {says}", law.name), broken >= LEAST_NOTICED);
             }
         }
     }
