@@ -1,29 +1,65 @@
-//! The proved engine, linked into this program: `desk_solve` of include/feshamiru.rs.
+//! The proved calls, linked into this program: those of include/feshamiru.rs.
 
 use crate::call::{Call, Outcome};
-use crate::feshamiru::desk_solve;
+use crate::calls::solved::{patience, room};
+use crate::feshamiru::{desk_parts, desk_solve};
 
-/// Solves into the buffers that are lent.
-pub fn solve(call: &Call, lent: &mut Outcome) {
+/// What a call writes to, in its order: winners, controller, answer.
+type Lent<'a> = &'a mut [Vec<u8>];
+
+fn solve(call: &Call, lent: Lent) -> u32 {
+    let table = call.bytes("table");
+    let [winners, controller, answer] = lent else { panic!("three buffers are written to") };
     // SAFETY: each pointer is that of a buffer of its own, and its length comes with it.
-    lent.code = unsafe {
+    unsafe {
         desk_solve(
-            call.first.as_ptr(),
-            call.first.len(),
-            call.patience,
-            call.room,
-            lent.winners.as_mut_ptr(),
-            lent.winners.len(),
-            lent.controller.as_mut_ptr(),
-            lent.controller.len(),
-            lent.answer.as_mut_ptr(),
-            lent.answer.len(),
+            table.as_ptr(),
+            table.len(),
+            patience(call),
+            room(call),
+            winners.as_mut_ptr(),
+            winners.len(),
+            controller.as_mut_ptr(),
+            controller.len(),
+            answer.as_mut_ptr(),
+            answer.len(),
         )
+    }
+}
+
+fn parts(call: &Call, lent: Lent) -> u32 {
+    let (first, second) = (call.bytes("first"), call.bytes("second"));
+    let [winners, controller, answer] = lent else { panic!("three buffers are written to") };
+    // SAFETY: as above; the two tables are only read.
+    unsafe {
+        desk_parts(
+            first.as_ptr(),
+            first.len(),
+            second.as_ptr(),
+            second.len(),
+            patience(call),
+            room(call),
+            winners.as_mut_ptr(),
+            winners.len(),
+            controller.as_mut_ptr(),
+            controller.len(),
+            answer.as_mut_ptr(),
+            answer.len(),
+        )
+    }
+}
+
+/// Solves into the buffers that are lent: those of `answer` once more.
+pub fn make(call: &Call, lent: &mut Outcome) {
+    let written = lent.buffers.len() - 3;
+    lent.result = match call.operation.name {
+        "solve" => solve(call, &mut lent.buffers[written..]),
+        _ => parts(call, &mut lent.buffers[written..]),
     };
 }
 
 pub fn answer(call: &Call) -> Outcome {
-    let mut outcome = Outcome::untouched(&call.lengths);
-    solve(call, &mut outcome);
+    let mut outcome = Outcome::result_only(call, 0);
+    make(call, &mut outcome);
     outcome
 }

@@ -1,7 +1,7 @@
 //! The benchmark: the proved engine beside the second program's antichain engine, on the same
 //! tables in one run. `bench/run` links it with the proved calls and starts it.
 //!
-//!     bench/run                       the seconds of both, and the stack of one solve
+//!     bench/run                       the seconds of both, and the stack of solve and of by parts
 //!     bench/run --seed 7 --runs 20    other random tables; the best of 20 runs
 //!     bench/run --search 102 30000    looks for a table with many rounds: a seed, and how many
 //!                                     changes to try; writes target/bench/found.tab
@@ -18,29 +18,40 @@ mod feshamiru;
 
 // Of the second program's modules not all is needed here.
 #[allow(dead_code)]
-#[path = "../tests/second/answer.rs"]
-mod answer;
-#[allow(dead_code)]
 #[path = "../tests/second/call.rs"]
 mod call;
-#[path = "../tests/second/chain.rs"]
-mod chain;
+#[allow(dead_code)]
+#[path = "../tests/second/calls/mod.rs"]
+mod calls;
 #[allow(dead_code)]
 #[path = "../tests/second/compare.rs"]
 mod compare;
-#[path = "../tests/second/join.rs"]
-mod join;
 #[allow(dead_code)]
-#[path = "../tests/second/make.rs"]
+#[path = "../tests/second/engines/mod.rs"]
+mod engines;
+#[allow(dead_code)]
+#[path = "../tests/second/make/mod.rs"]
 mod make;
-#[path = "../tests/second/plain.rs"]
-mod plain;
-#[path = "../tests/second/play.rs"]
+#[allow(dead_code)]
+#[path = "../tests/second/play/mod.rs"]
 mod play;
-#[path = "../tests/second/table.rs"]
-mod table;
+#[allow(dead_code)]
+#[path = "../tests/second/proved.rs"]
+mod proved;
+#[allow(dead_code)]
+#[path = "../tests/second/rules/mod.rs"]
+mod rules;
+#[allow(dead_code)]
+#[path = "../tests/second/session.rs"]
+mod session;
+#[allow(dead_code)]
+#[path = "../tests/second/stored.rs"]
+mod stored;
+#[allow(dead_code)]
+#[path = "../tests/second/vectors.rs"]
+mod vectors;
 
-use call::Call;
+use calls::{parts, solve};
 use make::Dice;
 use std::process::ExitCode;
 use times::Line;
@@ -53,6 +64,11 @@ const STORED: [(&str, &[u8]); 4] = [
     ("unreal", include_bytes!("../tables/unreal.tab")),
     ("shrink", include_bytes!("../tables/shrink.tab")),
     ("long", include_bytes!("../tables/long.tab")),
+];
+const OWED: [u8; 52] = [
+    1, 0, 2, 0, 1, 1, 0, 0, 2, 0, 0, 0, 2, 1, 1, 0, // states
+    3, 0, 0, 0, 3, 0, 1, 0, 3, 1, 0, 1, 3, 1, 1, 0, // edges on an output
+    4, 0, 0, 0, 4, 0, 1, 0, 4, 0, 1, 1, 4, 1, 0, 1, 4, 1, 1, 1, // edges on an input
 ];
 const RANDOM: usize = 2_000;
 const FOUND: &str = "target/bench/found.tab";
@@ -87,13 +103,13 @@ fn options(mut words: &[&str]) -> Result<Options, String> {
 fn stored_lines() -> impl Iterator<Item = Line> {
     STORED.into_iter().map(|(name, table)| Line {
         name: name.to_string(),
-        calls: vec![Call::solve(table, PATIENCE, ROOM)],
+        calls: vec![solve::call(table, PATIENCE, ROOM)],
     })
 }
 
 fn random_line(seed: u64) -> Line {
     let mut dice = Dice::new(seed);
-    let mut call = || Call::solve(&make::any_good(&mut dice), PATIENCE, ROOM);
+    let mut call = || solve::call(&make::any_good(&mut dice), PATIENCE, ROOM);
     Line {
         name: format!("2,000 random, seed {seed}"),
         calls: (0..RANDOM).map(|_| call()).collect(),
@@ -119,8 +135,15 @@ fn benchmark(words: &[&str]) -> Result<ExitCode, String> {
     if !print_seconds(&options) {
         return Ok(ExitCode::from(1));
     }
-    let bytes = stack::needed().map_err(|error| format!("the stack wasn't measured: {error}"))?;
-    println!("the stack of one solve, work at K {PATIENCE}, N {ROOM}: {bytes} bytes");
+    let calls = [
+        (stack::SINK_AND_SOLVE, "solve, work"),
+        (stack::SINK_AND_PARTS, "by parts, OWED with itself"),
+    ];
+    for (word, what) in calls {
+        let bytes =
+            stack::needed(word).map_err(|error| format!("the stack wasn't measured: {error}"))?;
+        println!("the stack of {what} at K {PATIENCE}, N {ROOM}: {bytes} bytes");
+    }
     Ok(ExitCode::SUCCESS)
 }
 
@@ -134,7 +157,10 @@ fn run(words: &[&str]) -> Result<ExitCode, String> {
     match words {
         [stack::SINK, bytes] => stack::try_to_sink(number(bytes)?),
         [stack::SINK_AND_SOLVE, bytes] => {
-            stack::try_to_solve(number(bytes)?, Call::solve(WORK, PATIENCE, ROOM))
+            stack::try_call(number(bytes)?, solve::call(WORK, PATIENCE, ROOM))
+        }
+        [stack::SINK_AND_PARTS, bytes] => {
+            stack::try_call(number(bytes)?, parts::call(&OWED, &OWED, PATIENCE, ROOM))
         }
         ["--search", seed, changes] => look_for_long(number(seed)?, number(changes)?)?,
         _ => return benchmark(words),

@@ -3,9 +3,11 @@
 //!
 //! The same seed and number of changes give the same table; a larger number goes on from there.
 
+use crate::engines::antichain;
 use crate::make::{good, letters, Dice};
-use crate::table::{read, records, Record, MARKED};
-use crate::{chain, PATIENCE, ROOM};
+use crate::rules::read::read;
+use crate::rules::record::{records, Record, MARKED};
+use crate::{PATIENCE, ROOM};
 use std::collections::BTreeSet;
 
 /// The random tables from which the first one is taken, and the most states that they have on a
@@ -22,7 +24,7 @@ pub struct Found {
 
 /// Empty if the table isn't good or one of its named sets doesn't fit in the room.
 fn solved(table: Vec<u8>) -> Option<Found> {
-    let settled = chain::solve(&read(&table).ok()?, PATIENCE as i8, ROOM as usize).ok()?;
+    let settled = antichain::solve(&read(&table).ok()?, PATIENCE as i8, ROOM as usize).ok()?;
     Some(Found { table, rounds: settled.rounds, largest: settled.largest })
 }
 

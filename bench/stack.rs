@@ -1,5 +1,5 @@
-//! The stack that one solve needs: how much less deep a thread can sink if it solves a table at
-//! the bottom than if it doesn't.
+//! The stack that a call needs: how much less deep a thread can sink if it makes the call at the
+//! bottom than if it doesn't.
 //!
 //! An overflow ends the process, so each try is a process of its own: this program again.
 
@@ -12,6 +12,7 @@ use std::process::{Command, Stdio};
 /// The words by which this program is started for a try; the bytes to sink come next.
 pub const SINK: &str = "--sink";
 pub const SINK_AND_SOLVE: &str = "--sink-and-solve";
+pub const SINK_AND_PARTS: &str = "--sink-and-parts";
 
 const THREAD_BYTES: usize = 1 << 20;
 
@@ -42,9 +43,9 @@ pub fn try_to_sink(bytes: usize) {
     println!("{}", in_thread(bytes, || ()));
 }
 
-pub fn try_to_solve(bytes: usize, call: Call) {
-    let mut lent = Outcome::untouched(&call.lengths);
-    println!("{}", in_thread(bytes, move || linked::solve(&call, &mut lent)));
+pub fn try_call(bytes: usize, call: Call) {
+    let mut lent = Outcome::result_only(&call, 0);
+    println!("{}", in_thread(bytes, move || linked::make(&call, &mut lent)));
 }
 
 /// How far a try has sunk; empty if the stack was too small.
@@ -69,6 +70,6 @@ fn deepest(word: &str) -> io::Result<usize> {
 }
 
 /// The bytes that the call at the bottom needs, give or take a frame of `sink`.
-pub fn needed() -> io::Result<usize> {
-    Ok(deepest(SINK)? - deepest(SINK_AND_SOLVE)?)
+pub fn needed(word: &str) -> io::Result<usize> {
+    Ok(deepest(SINK)? - deepest(word)?)
 }

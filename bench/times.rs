@@ -1,9 +1,13 @@
 //! The seconds of both engines on the same calls. What they answer is compared first, byte by byte.
 
-use crate::answer::Answer;
-use crate::call::{self, Call, Engine, Lengths, Outcome};
-use crate::compare::{fault, print_fault, Voice};
-use crate::{chain, linked, table};
+use crate::call::{Call, Outcome, Voice};
+use crate::calls::solved::{answer, patience, room};
+use crate::compare::{fault, print_fault};
+use crate::engines::{antichain, Engine};
+use crate::linked;
+use crate::play::Explored;
+use crate::rules::answer::Answer;
+use crate::rules::read::read;
 use std::hint::black_box;
 use std::time::Instant;
 
@@ -23,10 +27,12 @@ pub struct Measured {
 /// The answer in which both engines agree, and in every byte that they write. A difference is
 /// printed, and the answer is empty then.
 fn agreed(call: &Call) -> Option<Answer> {
-    let antichain = Voice { name: "antichain", outcome: call::answer(Engine::Chain, call) };
-    let voices = [antichain, Voice { name: "proved", outcome: linked::answer(call) }];
-    match fault(call, &voices) {
-        None => voices[0].outcome.answer(),
+    let name = Engine::Antichain.name();
+    let mut voices = (call.operation.oracles)(call);
+    voices.retain(|voice| voice.name == name);
+    voices.push(Voice { name: "proved", outcome: linked::answer(call) });
+    match fault(call, &voices, &mut Explored::default()) {
+        None => answer(call, &voices[0].outcome),
         Some(reason) => {
             print_fault(call, &voices, &reason);
             None
@@ -37,8 +43,8 @@ fn agreed(call: &Call) -> Option<Answer> {
 /// Reads the table and solves it, as the proved call does. Nothing is lent here: the lists that it
 /// makes are the result.
 fn solve_by_antichain(call: &Call) {
-    let table = table::read(&call.first).expect("the tables measured are good");
-    let settled = chain::solve(&table, call.patience as i8, call.room as usize);
+    let table = read(call.bytes("table")).expect("the tables measured are good");
+    let settled = antichain::solve(&table, patience(call) as i8, room(call) as usize);
     black_box(settled.is_ok());
 }
 
@@ -53,9 +59,9 @@ pub fn measure(line: &Line, runs: u32) -> Option<Measured> {
     let answers = line.calls.iter().map(agreed).collect::<Option<Vec<Answer>>>()?;
     let rounds = answers.iter().map(|answer| answer.rounds).sum();
     let mut least = Measured { rounds, proved: f64::MAX, antichain: f64::MAX };
-    let mut lent = Outcome::untouched(&Lengths::exact(line.calls[0].room));
+    let mut lent = Outcome::result_only(&line.calls[0], 0);
     for _ in 0..runs {
-        let proved = seconds(|| line.calls.iter().for_each(|call| linked::solve(call, &mut lent)));
+        let proved = seconds(|| line.calls.iter().for_each(|call| linked::make(call, &mut lent)));
         let antichain = seconds(|| line.calls.iter().for_each(solve_by_antichain));
         least.proved = least.proved.min(proved);
         least.antichain = least.antichain.min(antichain);

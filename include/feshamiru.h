@@ -7,7 +7,18 @@
    Every buffer is a pointer, never null, and then its length in bytes. The two tables of a call
    may be the same bytes; no buffer that is written to may overlap another. A call keeps nothing
    between one time and the next, and asks nothing else of its caller: whatever the bytes and
-   numbers are, it answers. */
+   numbers are, it answers.
+
+   Length 0   the pointer is not to be null either; any other address will do, since nothing is
+              read or written there. A null pointer with length 0 is outside what is proved;
+              tests/c/calls.c makes such calls, and they were answered like any other.
+   Unwritten  a buffer that is written to need not have been written to before: no answer and no
+              byte that a call writes comes from what was there. A table is read, all of it.
+   Threads    calls may be made in several threads at once, as long as what one of them writes to
+              is lent to no other meanwhile; tables may be shared. tests/rust/calls.rs does so.
+   Memory     a call takes none but its stack, and doesn't call itself, so the stack doesn't grow
+              with the table. Measured by bench/run on x86-64: 28,552 bytes for desk_solve and
+              39,544 for desk_parts. Plan with 64 KiB for a thread that makes calls. */
 #ifndef FESHAMIRU_H
 #define FESHAMIRU_H
 

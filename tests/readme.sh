@@ -1,8 +1,8 @@
 #!/bin/sh
 # tests/readme.sh: what README.md shows is so: the table and the answer of its example, and the programs in C and Rust, which compile, run
 # and print what it says by its own commands; and every file it names is there. Where the machine is not x86-64, the commands for x86-64 are
-# not run, and the Rust program is compiled but not linked. Needs target/staticlib/libcalls.a ('rt staticlib calls' writes it).
-# Prints last 'N passed, M failed'.
+# not run, and the Rust program is compiled but not linked: a line 'skipped: ..' says so. Needs target/staticlib/libcalls.a ('rt staticlib
+# calls' writes it). Prints last 'N passed, M failed'.
 set -u
 cd "$(dirname "$0")/.." || exit 2
 scratch=$(mktemp -d) || exit 2
@@ -19,12 +19,19 @@ holds() { # NAME COMMAND..
         passed=$((passed + 1))
     else
         failed=$((failed + 1))
-        echo "FAILED  $name: $(cat "$scratch/out")"
+        echo "FAILED: $name: $(cat "$scratch/out")"
     fi
 }
 
-# The lines of README.md that are set in by four blanks and match a pattern, without the blanks.
-set_in() { sed -n "s/^    \\($1\\)\$/\\1/p" README.md; }
+# The lines of README.md that are set in by four blanks and match one of some patterns, without the blanks.
+set_in() { # PATTERN..
+    sed -n 's/^    //p' README.md >"$scratch/set"
+    for pattern; do
+        set -- "$@" -e "^$pattern\$"
+        shift
+    done
+    grep "$@" "$scratch/set"
+}
 
 # The program text in README.md in a language.
 text_in() { sed -n "/^\`\`\`$1\$/,/^\`\`\`\$/{/^\`\`\`/!p;}" README.md; }
@@ -44,7 +51,7 @@ prints() { # COMMAND: one that README.md gives; it prints what README.md says
 set_in '[1-4] [0-9] [0-9] [0-9] .*' >"$scratch/records"
 grep '^[1-4]' tables/owed.table >"$scratch/owed"
 holds "the table is tables/owed.table" diff "$scratch/records" "$scratch/owed"
-set_in '\(k [0-9].*\|[0-9] [0-9] [0-9] [0-9]\|A controller was made.*\)' | sed '/^A controller/q' >"$scratch/said"
+set_in 'k [0-9].*' '[0-9] [0-9] [0-9] [0-9]' 'A controller was made.*' | sed '/^A controller/q' >"$scratch/said"
 holds "the answer is what ./desk --plain says" diff "$scratch/said" tests/expected/owed.said
 
 text_in c >"$scratch/c"
@@ -53,20 +60,32 @@ text_in rust >"$scratch/rust"
 holds "the Rust text is of tests/rust/example.rs" in_order "$scratch/rust" tests/rust/example.rs
 
 printf '%s\n' 'code 0' '0 1 0 0' '0 1 1 0' >"$scratch/answer"
-set_in '\(code [0-9]\|[0-9] [0-9] [0-9] [0-9]\)' | sed -n '/^code/,$p' >"$scratch/shown"
+set_in 'code [0-9]' '[0-9] [0-9] [0-9] [0-9]' | sed -n '/^code/,$p' >"$scratch/shown"
 holds "what the programs print is shown" diff "$scratch/shown" "$scratch/answer"
-holds "the C program, built by the kit" prints 'tests\/c\/build .*'
+holds "the C program, built by the kit" prints 'tests/c/build .*'
 if [ "$(uname -m)" = x86_64 ]; then
     holds "the C program, built by cc" prints 'cc .*'
     holds "the Rust program" prints 'rustc .*'
 else
+    echo "skipped: the C program built by cc, and the Rust program linked: this machine is not x86-64"
     holds "the Rust program compiles" rustc --edition 2021 -D warnings --emit metadata --out-dir "$scratch" tests/rust/example.rs
 fi
 
-# shellcheck disable=SC2016
-for path in $(grep -ho '`[^` ]*/[^` ]*`' README.md docs/CARD.md | tr -d '`' | grep -v '^target/' | sort -u); do
+# The paths that a text gives in backquotes.
+paths() {
+    awk '{
+        while (match($0, /`[^` ]*\/[^` ]*`/)) {
+            print substr($0, RSTART + 1, RLENGTH - 2)
+            $0 = substr($0, RSTART + RLENGTH)
+        }
+    }' "$@"
+}
+
+paths README.md docs/CARD.md | grep -v '^target/' | sort -u >"$scratch/paths"
+holds "README.md names paths" test -s "$scratch/paths"
+while IFS= read -r path; do
     holds "README.md or docs/CARD.md names $path" test -e "$path"
-done
+done <"$scratch/paths"
 
 echo "$passed passed, $failed failed"
 [ "$failed" -eq 0 ]

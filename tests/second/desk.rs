@@ -1,13 +1,15 @@
 //! The desk program's text: it is run on stored and random tables, and what it prints is held
 //! against what document 01 says that it prints.
 
-use crate::answer::{REALIZABLE, UNREALIZABLE};
-use crate::call::{self, Call, Engine};
-use crate::cases;
-use crate::compare::{digits, written, MOST_PRINTED};
+use crate::calls::solve;
+use crate::calls::solved::{answer, written, MOST_ROOM};
+use crate::compare::{digits, MOST_PRINTED};
 use crate::make::{any_good, changed, damaged, Dice};
 use crate::proved::piped;
-use crate::trials::MOST_ROOM;
+use crate::rules::codes::{REALIZABLE, UNREALIZABLE};
+use crate::rules::read::read;
+use crate::stored::{self, HARD};
+use std::collections::BTreeMap;
 use std::io::{self, Write};
 use std::process::{ChildStdin, Output};
 use std::time::Duration;
@@ -24,26 +26,26 @@ const HARD_EVERY: u64 = 40;
 #[derive(Default)]
 pub struct Desk {
     line: String,
-    pub passed: u32,
-    pub failed: u32,
+    pub passed: u64,
+    pub failed: u64,
     /// The tables whose last line has this code.
-    codes: [u32; 15],
+    codes: BTreeMap<u32, u32>,
 }
 
 /// "A line with K and the answer's fields by name, all but which, and after code 0 the rows as
 /// numbers (state, output, input, next)." The code is that of the line.
 fn lines(table: &[u8], patience: u32) -> (String, u32) {
-    let call = Call::solve(table, patience, MOST_ROOM);
-    let engine = if call::fits_plain(&call) { Engine::Plain } else { Engine::Chain };
-    let outcome = call::answer(engine, &call);
-    let answer = outcome.answer().expect("the answer buffer is long enough");
+    let call = solve::call(table, patience, MOST_ROOM);
+    let outcome = (solve::SOLVE.oracles)(&call).swap_remove(0).outcome;
+    let answer = answer(&call, &outcome).expect("the answer buffer is long enough");
     let mut text = format!(
         "k {patience} code {} place {} rounds {} winners {} start {}\n",
         answer.code, answer.place, answer.rounds, answer.winners, answer.start
     );
     if answer.code == REALIZABLE {
-        let [_, length, _] = written(&call, &outcome);
-        for row in outcome.controller[..length].chunks(4) {
+        let good = read(table).expect("a solved table is good");
+        let [_, rows] = written(&call, &good, &outcome);
+        for row in rows.chunks(4) {
             text += &format!("{} {} {} {}\n", row[0], row[1], row[2], row[3]);
         }
     }
@@ -98,7 +100,7 @@ impl Desk {
     fn pieces(&mut self, pieces: &[&[u8]]) -> io::Result<()> {
         let table = pieces.concat();
         let (text, code) = expected(&table);
-        self.codes[code as usize] += 1;
+        *self.codes.entry(code).or_default() += 1;
         let output = run(&self.line, pieces)?;
         let printed = String::from_utf8_lossy(&output.stdout);
         if output.status.success() && printed == text {
@@ -115,7 +117,7 @@ impl Desk {
 
     /// Document 01's own tables, faults, long ones, and one that comes in two pieces.
     pub fn stored(&mut self) -> io::Result<()> {
-        let tables = cases::tables();
+        let tables = stored::tables();
         assert_eq!(expected(&tables[0]).0, OWED_TEXT);
         for table in &tables {
             self.table(table)?;
@@ -128,7 +130,7 @@ impl Desk {
         let mut dice = Dice::new(seed);
         for number in 0..cases {
             let good = any_good(&mut dice);
-            let hard = cases::HARD[dice.below(cases::HARD.len())];
+            let hard = HARD[dice.below(HARD.len())];
             self.table(&match number {
                 _ if number % HARD_EVERY == 0 => changed(&mut dice, hard),
                 _ if number % 4 == 3 => damaged(&mut dice, &good),
@@ -140,7 +142,7 @@ impl Desk {
 
     pub fn print(&self) {
         println!("tables put to the desk program {}", self.passed + self.failed);
-        for (code, number) in self.codes.iter().enumerate().filter(|(_, number)| **number > 0) {
+        for (code, number) in &self.codes {
             println!("  code {code} last: {number}");
         }
     }

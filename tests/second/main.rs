@@ -1,134 +1,91 @@
 //! The second program: written from document 01 alone, and held against the proved one.
 //!
-//! Its two engines are held against each other, and with `--calls` every call is put to the
-//! proved archive as well. The exit status is 1 if anything differs.
+//! Its oracles are held against each other, and with `--calls` every call is put to the proved archive
+//! as well. The exit status is 1 if anything differs.
 //!
 //!     rustc --edition 2021 -O -o target/second tests/second/main.rs
 //!
 //!     second                        the stored cases and a fixed number of random ones
-//!     second --calls 'tools/program serve'
-//!                                   with the proved calls, as target/bin/serve answers them
-//!     second --calls 'tools/program serve' --seed 7 --cases 200000
+//!     second --calls tools/program
+//!                                   with the proved calls, as 'tools/program serve' answers them
+//!     second --calls tools/program --seed 7 --cases 200000
 //!                                   a long run: another seed, another number
+//!     second --calls tools/program --spoil
+//!                                   the negative control: spoilt answers, each of which must be caught
 //!     second --desk 'tools/program desk' --cases 100
 //!                                   the desk program's text, on stored tables and 100 others
+//!
+//! rules/ is what the document says of records, marks, starts and answers; engines/ solves, in two ways;
+//! play/ plays what was solved, both sides; call.rs says what a call is and calls/ has one file for each;
+//! laws/ is demand 3; make/ draws tables; session.rs puts calls and counts; spoil/ is the negative control.
+//! A new call is a file in calls/, its line in calls/mod.rs and its wrapper in tests/c, in the operations
+//! of its archive.
 
-mod answer;
 mod call;
-mod cases;
-mod chain;
+mod calls;
 mod compare;
 mod desk;
-mod join;
+mod engines;
+mod laws;
+mod least;
 mod make;
-mod plain;
+mod options;
 mod play;
 mod proved;
-mod table;
-mod tally;
-mod trials;
+mod rules;
+mod session;
+mod spoil;
+mod stored;
+mod vectors;
 
-use answer::NOTHING;
 use desk::Desk;
+use options::Options;
 use proved::Proved;
+use session::{Seen, Session};
 use std::io;
 use std::process::ExitCode;
-use tally::Tally;
-use trials::Trials;
 
-const SEED: u64 = 1;
-const CASES: u64 = 9_000;
+const CASES: u64 = 19_000;
 const DESK_CASES: u64 = 200;
-/// How seldom a hard table comes: each takes as long as many others.
-const HARD_EVERY: u64 = 200;
-
-struct Options {
-    seed: u64,
-    cases: Option<u64>,
-    calls: Option<String>,
-    desk: Option<String>,
-}
-
-fn options() -> Result<Options, String> {
-    let mut options = Options { seed: SEED, cases: None, calls: None, desk: None };
-    let mut words = std::env::args().skip(1);
-    while let Some(word) = words.next() {
-        let mut next = || words.next().ok_or(format!("{word} needs a word after it"));
-        let number = |word: String| word.parse().map_err(|_| format!("not a number: {word}"));
-        match word.as_str() {
-            "--seed" => options.seed = number(next()?)?,
-            "--cases" => options.cases = Some(number(next()?)?),
-            "--calls" => options.calls = Some(next()?),
-            "--desk" => options.desk = Some(next()?),
-            _ => return Err(format!("unknown word: {word}")),
-        }
-    }
-    Ok(options)
-}
-
-fn run(trials: &mut Trials, cases: u64) {
-    cases::run(&mut trials.tally);
-    // The codes are counted from here: random tables have to reach them without the stored ones.
-    trials.tally.codes = Default::default();
-    for number in 0..cases {
-        if number % HARD_EVERY == 0 {
-            trials.hard();
-        }
-        match number % 9 {
-            0..=2 => trials.ladder(),
-            3 => trials.any_room(),
-            4 => trials.damage(),
-            5 => trials.damaged_pair(),
-            6 => trials.parts(),
-            7 => trials.grouping(),
-            _ => trials.short(),
-        }
-    }
-}
-
-/// The codes that a whole run must reach. NOTHING isn't one of them: the position without any run
-/// stays without runs, so some position always wins.
-fn count_unreached(tally: &mut Tally) {
-    let codes = (0..tally.codes.len()).filter(|code| *code as u32 != NOTHING);
-    let unreached: Vec<usize> = codes.filter(|code| tally.codes[*code] == 0).collect();
-    if !unreached.is_empty() {
-        println!("FAILED: codes {unreached:?} were never reached");
-        tally.failed += 1;
-    }
-}
-
-fn print(trials: &Trials) {
-    let tally = &trials.tally;
-    trials.shares.print();
-    println!("calls {}", tally.passed + tally.failed);
-    println!("  worked out by both engines: {}", tally.both);
-    println!("  answered by the proved calls: {}", tally.proved_answers);
-    println!("  controllers played: {}", tally.played);
-    let [short, exact, longer] = tally.lent;
-    println!("  buffers lent too short: {short}, exact: {exact}, longer: {longer}");
-    println!("codes of the random calls");
-    for (code, number) in tally.codes.iter().enumerate() {
-        println!("  code {code}: {number}");
-    }
-    let [_, first, second] = tally.full;
-    println!("  code 11 with which 1: {first}, with which 2: {second}");
-}
 
 /// How many passed and how many failed.
-type Count = (u32, u32);
+type Count = (u64, u64);
 
-fn compare_calls(options: &Options) -> io::Result<Count> {
+/// Calls and laws take turns: three draws of calls to one of laws.
+fn run(session: &mut Session, cases: u64) {
+    stored::run(session);
+    // What came up is counted from here: random calls have to reach it without the stored ones.
+    session.seen = Seen::new();
+    for number in 0..cases as usize {
+        match number % 4 {
+            0 => (laws::ALL[number / 4 % laws::ALL.len()].draw)(session),
+            _ => (calls::ALL[(number - number / 4 - 1) % calls::ALL.len()].draw)(session),
+        }
+    }
+}
+
+fn compare_calls(options: &Options) -> Count {
     let cases = options.cases.unwrap_or(CASES);
     println!("seed {} cases {cases}", options.seed);
-    let proved = options.calls.as_deref().map(Proved::start).transpose()?;
-    let mut trials = Trials::new(options.seed, proved);
-    run(&mut trials, cases);
-    trials.tally.end();
+    let proved = options.calls.as_deref().map(|line| Proved::new(line, false));
+    let mut session = Session::new(options.seed, proved);
+    run(&mut session, cases);
+    session.end();
     if cases >= CASES {
-        count_unreached(&mut trials.tally);
+        least::assert(&mut session, options.calls.is_some());
     }
-    print(&trials);
-    Ok((trials.tally.passed, trials.tally.failed))
+    if options.seen {
+        print_seen(&session);
+    }
+    println!("calls answered by the proved calls: {}", session.proved_answers);
+    (session.passed, session.failed)
+}
+
+/// All that came up, for whoever sets the least numbers.
+fn print_seen(session: &Session) {
+    for ((operation, code, feature), number) in &session.seen {
+        println!("seen {number}: {operation}, code {code}, {feature}");
+    }
 }
 
 fn compare_desk(line: &str, options: &Options) -> io::Result<Count> {
@@ -142,9 +99,10 @@ fn compare_desk(line: &str, options: &Options) -> io::Result<Count> {
 }
 
 fn compare(options: &Options) -> io::Result<Count> {
-    match &options.desk {
-        Some(line) => compare_desk(line, options),
-        None => compare_calls(options),
+    match (&options.desk, &options.calls) {
+        (Some(line), _) => compare_desk(line, options),
+        (None, Some(line)) if options.spoil => Ok(spoil::run(line, options.seed)),
+        _ => Ok(compare_calls(options)),
     }
 }
 
@@ -154,7 +112,7 @@ fn unable(reason: String) -> ExitCode {
 }
 
 fn main() -> ExitCode {
-    let options = match options() {
+    let options = match options::read() {
         Ok(options) => options,
         Err(reason) => return unable(reason),
     };

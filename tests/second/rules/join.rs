@@ -1,7 +1,8 @@
 //! The join of two good tables, as bytes and as numbers of states.
 
-use crate::answer::{LETTERS, SIZE};
-use crate::table::{records, Record, Table};
+use super::codes::{LETTERS, SIZE};
+use super::record::{records, Record};
+use super::table::Table;
 
 pub fn check(first: &Table, second: &Table) -> Option<u32> {
     if first.controller.letters != second.controller.letters

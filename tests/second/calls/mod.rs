@@ -1,0 +1,12 @@
+//! The registry: every call that is compared, one file each.
+
+pub mod join;
+mod lies;
+pub mod parts;
+pub mod solve;
+pub mod solved;
+pub mod two;
+
+use crate::call::Operation;
+
+pub const ALL: [&Operation; 3] = [&solve::SOLVE, &join::JOIN, &parts::PARTS];
