@@ -4,6 +4,7 @@
 // prints for one table, with the field which.
 use libc::STDOUT_FILENO;
 use meaning::Answer;
+use table::record::INPUT;
 
 fn main() {
     let one = open(2);
@@ -67,8 +68,8 @@ fn parts_at(first: &[u8], second: &[u8], k: usize) -> usize {
     let verdict = answer.verdict;
     let code = meaning::code(verdict);
     if code == 0 {
-        let rules = table::read::read(first);
-        lines::fours(&controller, lines::rows(answer.winners, rules.inputs));
+        let inputs = table::read::letters(first, INPUT);
+        lines::fours(&controller, lines::rows(answer.winners, inputs));
     }
     code
 }

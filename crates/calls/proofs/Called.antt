@@ -17,27 +17,6 @@ use Rattle.meaning.specs.Answers.{numberOf, codeOf, refused, Solved, unsolved, 
 use Rattle.meaning.specs.Checks.{bound, room, solveChecks, partsChecks}
 use Rattle.calls.specs.Called.{reported, called, unanswered, calledSolved, joins, calledJoin}
 
--- the codes end with 14
-number-most : (r : Refusal) → numberOf r ≤ 14
-number-most Bound = lit≤ tt
-number-most Room = lit≤ tt
-number-most Length = lit≤ tt
-number-most Recorded = lit≤ tt
-number-most Order = lit≤ tt
-number-most States = lit≤ tt
-number-most Start = lit≤ tt
-number-most Edge = lit≤ tt
-number-most Gap = lit≤ tt
-number-most Full = lit≤ tt
-number-most Nothing = lit≤ tt
-number-most Letters = lit≤ tt
-number-most Size = lit≤ tt
-
-pub code-most : (v : Verdict) → codeOf v ≤ 14
-code-most (Realizable s) = lit≤ tt
-code-most Unrealizable = lit≤ tt
-code-most (Refused r) = number-most r
-
 -- what a call that solves leaves with no room for positions
 pub record Roomless (K : ℕ) (win con : List ℕ) (s : Solved) : Type 0 where
   pub code : codeOf (s .answer .verdict) ≡ unanswered K
@@ -88,9 +67,7 @@ module _ (one two out ans : List ℕ) where
   unfolding calledJoin
   joins-short h = rw (lt-ltb (length ans) 24 h)
 
-  pub joins-long : 24 ≤ length ans → (r : ℕ) (a : Answer) (outAfter ansAfter : List ℕ) → a ≡ join one two out .answer → outAfter ≡ join one two out .outAfter
+  pub joins-long : 24 ≤ length ans → (r : ℕ) (a : Answer) (outAfter ansAfter : List ℕ) → joinedAs a outAfter ≡ join one two out
       → r ≡ codeOf (a .verdict) → ansAfter ≡ reported a ans → joins r outAfter ansAfter ≡ calledJoin one two out ans
   unfolding reported calledJoin
-  joins-long h r a outAfter ansAfter answered bytes code laid =
-      let long = le-ltb (length ans) 24 h in
-      rw (laid, long, ← answered, ← bytes, code)
+  joins-long h r a outAfter ansAfter left code laid = rw (laid, le-ltb (length ans) 24 h, ← left, code)

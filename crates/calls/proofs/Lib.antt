@@ -3,4 +3,4 @@
 pub mod Laid
 pub mod Called
 pub mod Whole
-pub mod Once
+pub mod Demands

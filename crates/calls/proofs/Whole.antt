@@ -32,15 +32,7 @@ use Rattle.game.proofs.Settled.{rounds-few}
 use Rattle.game.proofs.InOrder.{room-within}
 use Rattle.calls.specs.Called.{fields, fourBytes, answerBytes, calledSolved, calledSolve, calledParts, calledJoin}
 use Rattle.calls.proofs.Laid.{four-length}
-use Rattle.calls.proofs.Called.{code-most}
-
--- what bytes say, four by four, low byte first
-abbrev pub numbersIn : List ℕ → List ℕ
-numbersIn [] = []
-numbersIn (a ∷ []) = []
-numbersIn (a ∷ b ∷ []) = []
-numbersIn (a ∷ b ∷ c ∷ []) = []
-numbersIn (a ∷ b ∷ c ∷ d ∷ rest) = (a + 256 * b + 65536 * c + 16777216 * d) ∷ numbersIn rest
+use Rattle.meaning.proofs.Codes.{code-below}
 
 -- each number is below 2 ^ 32
 abbrev pub Fit : List ℕ → Type 0
@@ -103,7 +95,7 @@ pair-few one two =
 refused-fits : (c : Check) → Few c → Fit (fields (refused c))
 unfolding fields refused
 refused-fits c few =
-    (omega (arith, code-most (Refused (c .refusal))), (omega (arith, few .0), (omega (arith, few .1), (lit< tt, (lit< tt, (lit< tt, tt))))))
+    (omega (arith, code-below (Refused (c .refusal))), (omega (arith, few .0), (omega (arith, few .1), (lit< tt, (lit< tt, (lit< tt, tt))))))
 
 judged-fits : {A : Type 0} (answer : A → Answer) (refuse : Check → A) (grant : A) → ((c : Check) → answer (refuse c) ≡ refused c)
     → (cs : List Check) → Each Few cs → (Passes cs → Fit (fields (answer grant))) → Fit (fields (answer (judge cs refuse grant)))
@@ -123,13 +115,13 @@ rounds-le K t X = first-le ((K + 2) ^ t .controllers) _
 
 solved-fits : (K N : ℕ) (t : Table) (X : Set) (win con : List ℕ) → K ≤ 7 → t .controllers ≤ 8 → N ≤ 256 → full K t X N ≡ false
     → Fit (fields (solvedFrom K t X win con .answer))
-unfolding fields solvedFrom
+unfolding fields solvedFrom answered
 solved-fits K N t X win con patient few within spare =
     let ws = winners K t X in
-    let s = startState t ws in
+    let s = startState K t ws in
     let won = ltb s (length ws) in
     let number : length ws ≤ 256 = omega (arith, winners-number K N t X spare) in (
-      omega (arith, code-most (cond won (Realizable s) Unrealizable)),
+      omega (arith, code-below (cond won (Realizable s) Unrealizable)),
       (
         lit< tt,
         (
@@ -148,7 +140,7 @@ unfolding tableOf
 sound-few rs s = states-top controller rs (s .within) (s .controllers)
 
 -- so the fields of each call's answer fit
-solve-fits : (bytes : List ℕ) (K N : ℕ) (win con : List ℕ) → Fit (fields (solve bytes K N win con .answer))
+pub solve-fits : (bytes : List ℕ) (K N : ℕ) (win con : List ℕ) → Fit (fields (solve bytes K N win con .answer))
 unfolding solve solveChecks unsolved bound room stageChecks
 solve-fits bytes K N win con =
     let rs = recordsOf bytes in
@@ -162,26 +154,23 @@ solve-fits bytes K N win con =
     solved-fits K N t X win con (ltb-false 7 K (q .in-bound)) (sound-few rs (passes-sound 0 bytes (q .table))) (room-within N win con (q .roomy) .1)
     (passes-at (stageChecks 0 K N t X) (q .stage) 0 (bound 0) (lit< tt)))
 
-parts-fits : (one two : List ℕ) (K N : ℕ) (win con : List ℕ) → Fit (fields (parts one two K N win con .answer))
-unfolding parts partsChecks unsolved bound room stageChecks
+pub parts-fits : (one two : List ℕ) (K N : ℕ) (win con : List ℕ) → Fit (fields (parts one two K N win con .answer))
+unfolding parts partsChecks partsStages unsolved bound room stageChecks
 parts-fits one two K N win con =
-    let t = tableOf (recordsOf one) in
-    let u = tableOf (recordsOf two) in
     let rs = joined (recordsOf one) (recordsOf two) in
-    let both = tableOf rs in
-    let X = pairs K t u in
+    let both = joinedTable one two in
+    let X = pairs K (stated one) (stated two) in
     let none : Few (bound K) = (zero-le, zero-le) in
-    let stage = stageChecks 1 K N t (allSafe K (t .controllers)) in
-    let next = stageChecks 2 K N u (allSafe K (u .controllers)) in
+    let alone : ℕ → List ℕ → List Check = λ which bytes. stageChecks which K N (stated bytes) (allSafe K (stated bytes .controllers)) in
+    let few : (which : ℕ) (bytes : List ℕ) → which ≤ 2 → Each Few (alone which bytes) =
+    λ which bytes w. stage-few which K N (stated bytes) (allSafe K (stated bytes .controllers)) w in
     judged-fits (λ (s : Solved). s .answer) (unsolved win con) (solvedFrom K both X win con) (λ c. refl) (partsChecks one two K N win con) (
       λ _. none,
       λ _. (
         λ _. none,
-        λ _. each-append Few (pairChecks one two ++ stage ++ next) _
-            (each-append Few (pairChecks one two ++ stage) next
-            (each-append Few (pairChecks one two) stage (pair-few one two) (stage-few 1 K N t (allSafe K (t .controllers)) (lit≤ tt)))
-            (stage-few 2 K N u (allSafe K (u .controllers)) (lit≤ tt)))
-            (λ _. none, λ _. stage-few 0 K N both X zero-le),
+        λ _. each-append Few (pairChecks one two) (partsStages one two K N) (pair-few one two)
+            (each-append Few (alone 1 one ++ alone 2 two) _ (each-append Few (alone 1 one) (alone 2 two) (few 1 one (lit≤ tt)) (few 2 two (lit≤ tt)))
+            (λ _. none, λ _. stage-few 0 K N both X zero-le)),
       ),
     )
     (λ p.
@@ -189,7 +178,7 @@ parts-fits one two K N win con =
     solved-fits K N both X win con (ltb-false 7 K (q .in-bound)) (sound-few rs (joined-sound (recordsOf one) (recordsOf two) (passes-paired one two (q .pair))))
     (room-within N win con (q .roomy) .1) (passes-at (stageChecks 0 K N both X) (q .last-stage) 0 (bound 0) (lit< tt)))
 
-join-fits : (one two out : List ℕ) → Fit (fields (join one two out .answer))
+pub join-fits : (one two out : List ℕ) → Fit (fields (join one two out .answer))
 unfolding join joinChecks roomToJoin fields wrongLength
 join-fits one two out =
     let new = joinedBytes one two in
@@ -202,21 +191,6 @@ join-fits one two out =
     (lit< tt, (omega arith, (lit< tt, (lit< tt, (lit< tt, (lit< tt, tt)))))))
 
 -- "six fields of four bytes, low byte first": the first 24 bytes of the answer's buffer say the whole answer
-said : (a : Answer) (ans : List ℕ) → Fit (fields a) → numbersIn (take 24 (written (answerBytes a) ans)) ≡ fields a
+pub said : (a : Answer) (ans : List ℕ) → Fit (fields a) → numbersIn (take 24 (written (answerBytes a) ans)) ≡ fields a
 unfolding answerBytes fields
 said a ans fit = ap numbersIn (take-at (answerBytes a) (drop (length (answerBytes a)) ans) 24 (four-length (fields a))) ∙ numbers-told (fields a) fit
-
-module _ (ans : List ℕ) (long : 24 ≤ length ans) where
-  pub solve-said : (table : List ℕ) (K N : ℕ) (win con : List ℕ)
-      → numbersIn (take 24 (calledSolve table K N win con ans .answerAfter)) ≡ fields (solve table K N win con .answer)
-  unfolding calledSolve calledSolved
-  solve-said table K N win con = rw (le-ltb (length ans) 24 long) (said (solve table K N win con .answer) ans (solve-fits table K N win con))
-
-  pub parts-said : (one two : List ℕ) (K N : ℕ) (win con : List ℕ)
-      → numbersIn (take 24 (calledParts one two K N win con ans .answerAfter)) ≡ fields (parts one two K N win con .answer)
-  unfolding calledParts calledSolved
-  parts-said one two K N win con = rw (le-ltb (length ans) 24 long) (said (parts one two K N win con .answer) ans (parts-fits one two K N win con))
-
-  pub join-said : (one two out : List ℕ) → numbersIn (take 24 (calledJoin one two out ans .answerAfter)) ≡ fields (join one two out .answer)
-  unfolding calledJoin
-  join-said one two out = rw (le-ltb (length ans) 24 long) (said (join one two out .answer) ans (join-fits one two out))

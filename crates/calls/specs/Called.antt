@@ -1,13 +1,16 @@
 -- The public calls: an answer's bytes, and for each call its whole outcome, the result and every lent buffer's bytes afterwards.
+use mathlib.Core.Path.{_≡_}
 use mathlib.Core.Bool.{cond}
 use mathlib.Core.List.{List, [], _∷_, flatMap}
-use Prim.Native.Nat.{ℕ, _/_, _%_}
-use lib.ListN.{length}
+use Prim.Native.Nat.{ℕ, _+_, _*_, _/_, _%_}
+use lib.ListN.{length, take}
 use lib.Dec.{ltb}
 use Rattle.meaning.specs.declared.Answer.{Answer}
 use Rattle.meaning.specs.declared.Refusal.the-variants.{Bound, Room}
 use Rattle.meaning.specs.Lists.{written}
-use Rattle.meaning.specs.Answers.{numberOf, codeOf, startOf, Solved, solve, join, parts}
+use Rattle.meaning.specs.Answers.{numberOf, codeOf, startOf, Solved, solve, Joined, join, parts}
+use Rattle.meaning.specs.Calls as Solving
+use Rattle.meaning.specs.Calls.{Call, code}
 
 -- "Every answer carries a code, a place, which .., rounds, number of winners, start."
 unfoldable pub fields : Answer → List ℕ
@@ -67,3 +70,47 @@ calledJoin one two out ans =
     let j = join one two out in
     cond (ltb (length ans) 24) (joins (numberOf Room) out ans)
     (joins (codeOf (j .answer .verdict)) (j .outAfter) (written (answerBytes (j .answer)) ans))
+
+-- What a caller learns from a call for C: the buffers that it lent, and what the call left of its result and of them
+pub record Lent : Type 0 where
+  pub winnersBefore : List ℕ
+  pub controllerBefore : List ℕ
+  pub answerBefore : List ℕ
+
+abbrev pub CSolveCall : List ℕ → ℕ → ℕ → Type 0
+CSolveCall table K N = Call (λ (b : Lent). calledSolve table K N (b .winnersBefore) (b .controllerBefore) (b .answerBefore))
+
+abbrev pub CPartsCall : List ℕ → List ℕ → ℕ → ℕ → Type 0
+CPartsCall one two K N = Call (λ (b : Lent). calledParts one two K N (b .winnersBefore) (b .controllerBefore) (b .answerBefore))
+
+pub record LentToJoin : Type 0 where
+  pub outBefore : List ℕ
+  pub answerBefore : List ℕ
+
+abbrev pub CJoinCall : List ℕ → List ℕ → Type 0
+CJoinCall one two = Call (λ (b : LentToJoin). calledJoin one two (b .outBefore) (b .answerBefore))
+
+-- the numbers that bytes say, four by four, low byte first
+abbrev pub numbersIn : List ℕ → List ℕ
+numbersIn [] = []
+numbersIn (a ∷ []) = []
+numbersIn (a ∷ b ∷ []) = []
+numbersIn (a ∷ b ∷ c ∷ []) = []
+numbersIn (a ∷ b ∷ c ∷ d ∷ rest) = (a + 256 * b + 65536 * c + 16777216 * d) ∷ numbersIn rest
+
+-- A call for C that solves is a call of Rattle, with the same buffers before and afterwards: its result is the code, and the first 24 bytes of the
+-- answer's buffer say the answer
+pub record Heard {outcome : Solving.Lent → Solved} (lent : Lent) (left : Called) (call : Call outcome) : Type 0 where
+  pub winners-lent : call .lent .winnersBefore ≡ lent .winnersBefore
+  pub controller-lent : call .lent .controllerBefore ≡ lent .controllerBefore
+  pub result-code : left .result ≡ code (call .left .answer)
+  pub winners-left : left .winnersAfter ≡ call .left .winnersAfter
+  pub controller-left : left .controllerAfter ≡ call .left .controllerAfter
+  pub answer-said : numbersIn (take 24 (left .answerAfter)) ≡ fields (call .left .answer)
+
+-- and a call for C that joins likewise
+pub record HeardJoin {outcome : List ℕ → Joined} (lent : LentToJoin) (left : CalledJoin) (call : Call outcome) : Type 0 where
+  pub out-lent : call .lent ≡ lent .outBefore
+  pub result-code : left .result ≡ code (call .left .answer)
+  pub out-left : left .outAfter ≡ call .left .outAfter
+  pub answer-said : numbersIn (take 24 (left .answerAfter)) ≡ fields (call .left .answer)

@@ -24,8 +24,7 @@ returns-2 : tie.Need-returns-2
 returns-2 c =
     let laid = c .before .before in
     let joined = laid .before .before .before .before in
-    joins-long _ _ _ _ (joined .before .before .if1 .left) _ _ _ _ (joined .join .ensures .0) (joined .join .ensures .1) (laid .report .ensures .0)
-    (laid .report .ensures .1)
+    joins-long _ _ _ _ (joined .before .before .if1 .left) _ _ _ _ (joined .join .ensures) (laid .report .ensures .0) (laid .report .ensures .1)
 
 pub desk-join-spec : {M : Type 1} → statement M
 desk-join-spec =

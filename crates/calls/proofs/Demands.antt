@@ -1,0 +1,132 @@
+-- What a caller of a call for C learns from its contract is the record of such a call, refused or not. With 24 bytes for the answer it is a call of
+-- Rattle, whose code it returns, whose buffers it leaves and whose answer it lays down: so what meaning's demands say of that call holds of it. With
+-- fewer it is refused by 2 or 3 and leaves every buffer as it was. Assumes nothing.
+use mathlib.Core.Path.{_≡_, refl, ap, _∙_}
+use mathlib.Core.List.{List}
+use Prim.Native.Nat.{ℕ, _≤_, _<_}
+use borrow.Fn.Kinds.{endedOf}
+use borrow.Fn.World.{ArgsD, ResD}
+use borrow.Author.Tests.{lt-ltb, le-ltb}
+use contract.Lifetimes.{Lfts}
+use denote.Ref.{now}
+use denote.Triple.Clauses.{AtExit}
+use lib.ListN.{length}
+use Rattle.meaning.specs.declared.Refusal.the-variants.{Room}
+use Rattle.meaning.specs.Answers.{numberOf, Solved, solve, parts, join}
+use Rattle.meaning.specs.Calls.{Call, SolveCall, PartsCall, JoinCall}
+use Rattle.calls.specs.Called.{Lent, LentToJoin, CSolveCall, CPartsCall, CJoinCall, Heard, HeardJoin, called, joins, unanswered}
+use Rattle.calls.specs.Called.{calledSolved, calledSolve, calledParts, calledJoin}
+use Rattle.calls.proofs.Whole.{said, solve-fits, parts-fits, join-fits}
+use Rattle.calls.proofs.desk_solve as solveCode
+use Rattle.calls.proofs.desk_solve.Kinds as solveKinds
+use Rattle.calls.proofs.desk_solve.Reads as solveReads
+use Rattle.calls.proofs.desk_parts as partsCode
+use Rattle.calls.proofs.desk_parts.Kinds as partsKinds
+use Rattle.calls.proofs.desk_parts.Reads as partsReads
+use Rattle.calls.proofs.desk_join as joinCode
+use Rattle.calls.proofs.desk_join.Kinds as joinKinds
+use Rattle.calls.proofs.desk_join.Reads as joinReads
+
+-- what a caller learns
+pub c-solve-learnt : (κs : Lfts 4) (args : ArgsD solveCode.signature κs) (result : ResD solveCode.signature κs)
+    (after : AtExit (endedOf 4 solveKinds.ps solveKinds.r) κs) → solveReads.Learnt κs args result after
+    → CSolveCall (now (args .0)) (args .1 .0) (args .1 .1 .0)
+c-solve-learnt κs args result after learnt =
+    record {
+      lent = record { winnersBefore = now (args .1 .1 .1 .0); controllerBefore = now (args .1 .1 .1 .1 .0); answerBefore = now (args .1 .1 .1 .1 .1 .0) };
+      left = called result (now (after .1 .1 .1 .0)) (now (after .1 .1 .1 .1 .0)) (now (after .1 .1 .1 .1 .1 .0));
+      promise = learnt;
+    }
+
+pub c-parts-learnt : (κs : Lfts 5) (args : ArgsD partsCode.signature κs) (result : ResD partsCode.signature κs)
+    (after : AtExit (endedOf 5 partsKinds.ps partsKinds.r) κs) → partsReads.Learnt κs args result after
+    → CPartsCall (now (args .0)) (now (args .1 .0)) (args .1 .1 .0) (args .1 .1 .1 .0)
+c-parts-learnt κs args result after learnt =
+    record {
+      lent = record {
+        winnersBefore = now (args .1 .1 .1 .1 .0);
+        controllerBefore = now (args .1 .1 .1 .1 .1 .0);
+        answerBefore = now (args .1 .1 .1 .1 .1 .1 .0);
+      };
+      left = called result (now (after .1 .1 .1 .1 .0)) (now (after .1 .1 .1 .1 .1 .0)) (now (after .1 .1 .1 .1 .1 .1 .0));
+      promise = learnt;
+    }
+
+pub c-join-learnt : (κs : Lfts 4) (args : ArgsD joinCode.signature κs) (result : ResD joinCode.signature κs)
+    (after : AtExit (endedOf 4 joinKinds.ps joinKinds.r) κs) → joinReads.Learnt κs args result after
+    → CJoinCall (now (args .0)) (now (args .1 .0))
+c-join-learnt κs args result after learnt =
+    record {
+      lent = record { outBefore = now (args .1 .1 .0); answerBefore = now (args .1 .1 .1 .0) };
+      left = joins result (now (after .1 .1 .0)) (now (after .1 .1 .1 .0));
+      promise = learnt;
+    }
+
+-- with 24 bytes for the answer it is a call of Rattle
+pub c-solve-heard : (table : List ℕ) (K N : ℕ) (c : CSolveCall table K N) → 24 ≤ length (c .lent .answerBefore)
+    → (call : SolveCall table K N) × Heard (c .lent) (c .left) call
+unfolding calledSolve calledSolved
+c-solve-heard table K N c long =
+    let b = c .lent in
+    let s = solve table K N (b .winnersBefore) (b .controllerBefore) in
+    let e = le-ltb (length (b .answerBefore)) 24 long in (
+      record { lent = record { winnersBefore = b .winnersBefore; controllerBefore = b .controllerBefore }; left = s; promise = refl },
+      rw (c .promise, e) (record {
+        winners-lent = refl;
+        controller-lent = refl;
+        result-code = refl;
+        winners-left = refl;
+        controller-left = refl;
+        answer-said = said (s .answer) (b .answerBefore) (solve-fits table K N (b .winnersBefore) (b .controllerBefore));
+      }),
+    )
+
+pub c-parts-heard : (one two : List ℕ) (K N : ℕ) (c : CPartsCall one two K N) → 24 ≤ length (c .lent .answerBefore)
+    → (call : PartsCall one two K N) × Heard (c .lent) (c .left) call
+unfolding calledParts calledSolved
+c-parts-heard one two K N c long =
+    let b = c .lent in
+    let s = parts one two K N (b .winnersBefore) (b .controllerBefore) in
+    let e = le-ltb (length (b .answerBefore)) 24 long in (
+      record { lent = record { winnersBefore = b .winnersBefore; controllerBefore = b .controllerBefore }; left = s; promise = refl },
+      rw (c .promise, e) (record {
+        winners-lent = refl;
+        controller-lent = refl;
+        result-code = refl;
+        winners-left = refl;
+        controller-left = refl;
+        answer-said = said (s .answer) (b .answerBefore) (parts-fits one two K N (b .winnersBefore) (b .controllerBefore));
+      }),
+    )
+
+pub c-join-heard : (one two : List ℕ) (c : CJoinCall one two) → 24 ≤ length (c .lent .answerBefore)
+    → (call : JoinCall one two) × HeardJoin (c .lent) (c .left) call
+unfolding calledJoin
+c-join-heard one two c long =
+    let b = c .lent in
+    let j = join one two (b .outBefore) in
+    let e = le-ltb (length (b .answerBefore)) 24 long in (
+      record { lent = b .outBefore; left = j; promise = refl },
+      rw (c .promise, e) (record {
+        out-lent = refl;
+        result-code = refl;
+        out-left = refl;
+        answer-said = said (j .answer) (b .answerBefore) (join-fits one two (b .outBefore));
+      }),
+    )
+
+-- with fewer it is refused, and nothing at all is written
+pub c-solve-unanswered : (table : List ℕ) (K N : ℕ) (c : CSolveCall table K N) → length (c .lent .answerBefore) < 24
+    → c .left ≡ called (unanswered K) (c .lent .winnersBefore) (c .lent .controllerBefore) (c .lent .answerBefore)
+unfolding calledSolve calledSolved
+c-solve-unanswered table K N c short = c .promise ∙ rw (lt-ltb (length (c .lent .answerBefore)) 24 short)
+
+pub c-parts-unanswered : (one two : List ℕ) (K N : ℕ) (c : CPartsCall one two K N) → length (c .lent .answerBefore) < 24
+    → c .left ≡ called (unanswered K) (c .lent .winnersBefore) (c .lent .controllerBefore) (c .lent .answerBefore)
+unfolding calledParts calledSolved
+c-parts-unanswered one two K N c short = c .promise ∙ rw (lt-ltb (length (c .lent .answerBefore)) 24 short)
+
+pub c-join-unanswered : (one two : List ℕ) (c : CJoinCall one two) → length (c .lent .answerBefore) < 24
+    → c .left ≡ joins (numberOf Room) (c .lent .outBefore) (c .lent .answerBefore)
+unfolding calledJoin
+c-join-unanswered one two c short = c .promise ∙ rw (lt-ltb (length (c .lent .answerBefore)) 24 short)
