@@ -13,7 +13,7 @@ use Rattle.meaning.specs.declared.Verdict.the-variants.{Realizable, Unrealizabl
 use Rattle.meaning.specs.declared.Refusal.{Refusal}
 use Rattle.meaning.specs.declared.Refusal.the-variants.{Bound, Room, Length, Record as Recorded, Order, States, Start, Edge, Gap, Full, Nothing}
 use Rattle.meaning.specs.declared.Refusal.the-variants.{Letters, Size}
-use Rattle.meaning.specs.Answers.{numberOf, codeOf, refused, Solved, unsolved, solve, join, parts}
+use Rattle.meaning.specs.Answers.{numberOf, codeOf, refused, Solved, unsolved, solve, join, parts, joinedAs, solved}
 use Rattle.meaning.specs.Checks.{bound, room, solveChecks, partsChecks}
 use Rattle.calls.specs.Called.{reported, called, unanswered, calledSolved, joins, calledJoin}
 

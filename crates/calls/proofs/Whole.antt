@@ -11,16 +11,18 @@ use lib.Dec.{eqb, ltb, lit<, lit≤}
 use lib.ListN.{length, take, drop}
 use lib.Seq.{take-at}
 use Rattle.meaning.specs.declared.Answer.{Answer}
+use Rattle.meaning.specs.declared.Refusal.the-variants.{Full}
 use Rattle.meaning.specs.declared.Verdict.the-variants.{Realizable, Unrealizable, Refused}
 use Rattle.meaning.specs.Lists.{place, written}
 use Rattle.meaning.specs.Records.{Record, recordsOf, controller, outside}
-use Rattle.meaning.specs.Table.{Table, tableOf}
-use Rattle.meaning.specs.Rounds.{Set, allSafe, rounds, full}
+use Rattle.meaning.specs.Table.{Table, tableOf, stated}
+use Rattle.meaning.specs.Rounds.{Set, allSafe, rounds, full, maximalMembers}
 use Rattle.meaning.specs.Written.{winners, startState}
-use Rattle.meaning.specs.Join.{joined, pairs, joinedBytes}
+use Rattle.meaning.specs.Join.{joined, pairs, joinedBytes, joinedTable}
 use Rattle.meaning.specs.Answers.{startOf, refused, Solved, unsolved, solvedFrom, solve, Joined, join, parts, unjoined, joinedInto}
-use Rattle.meaning.specs.Checks.{Check, judge, bound, room, roomToJoin, wrongLength, descent, dangling, tableChecks, stageChecks}
-use Rattle.meaning.specs.Checks.{solveChecks, pairChecks, otherLetters, tooLarge, joinChecks, partsChecks, Passes}
+use Rattle.meaning.specs.Answers.{answered}
+use Rattle.meaning.specs.Checks.{Check, judge, bound, room, roomToJoin, wrongLength, descent, dangling, tableChecks, stageChecks, check}
+use Rattle.meaning.specs.Checks.{solveChecks, pairChecks, otherLetters, tooLarge, joinChecks, partsChecks, Passes, partsStages}
 use Rattle.meaning.proofs.Tests.{neither-right, first-le, cond-cases}
 use Rattle.meaning.proofs.Checks.{passes-at, passes-right}
 use Rattle.meaning.proofs.Answers.{solve-passes, parts-passes}
@@ -30,7 +32,7 @@ use Rattle.meaning.proofs.JoinGood.{joined-length, joined-sound}
 use Rattle.table.proofs.Records.{records-count}
 use Rattle.game.proofs.Settled.{rounds-few}
 use Rattle.game.proofs.InOrder.{room-within}
-use Rattle.calls.specs.Called.{fields, fourBytes, answerBytes, calledSolved, calledSolve, calledParts, calledJoin}
+use Rattle.calls.specs.Called.{fields, fourBytes, answerBytes, calledSolved, calledSolve, calledParts, calledJoin, numbersIn}
 use Rattle.calls.proofs.Laid.{four-length}
 use Rattle.meaning.proofs.Codes.{code-below}
 
@@ -161,6 +163,7 @@ parts-fits one two K N win con =
     let both = joinedTable one two in
     let X = pairs K (stated one) (stated two) in
     let none : Few (bound K) = (zero-le, zero-le) in
+    let last = check Full 0 0 (ltb N (length (maximalMembers K (both .controllers) X))) ∷ stageChecks 0 K N both X in
     let alone : ℕ → List ℕ → List Check = λ which bytes. stageChecks which K N (stated bytes) (allSafe K (stated bytes .controllers)) in
     let few : (which : ℕ) (bytes : List ℕ) → which ≤ 2 → Each Few (alone which bytes) =
     λ which bytes w. stage-few which K N (stated bytes) (allSafe K (stated bytes .controllers)) w in
@@ -169,8 +172,8 @@ parts-fits one two K N win con =
       λ _. (
         λ _. none,
         λ _. each-append Few (pairChecks one two) (partsStages one two K N) (pair-few one two)
-            (each-append Few (alone 1 one ++ alone 2 two) _ (each-append Few (alone 1 one) (alone 2 two) (few 1 one (lit≤ tt)) (few 2 two (lit≤ tt)))
-            (λ _. none, λ _. stage-few 0 K N both X zero-le)),
+            (each-append Few (alone 1 one ++ alone 2 two) last
+            (each-append Few (alone 1 one) (alone 2 two) (few 1 one (lit≤ tt)) (few 2 two (lit≤ tt))) (λ _. none, λ _. stage-few 0 K N both X zero-le)),
       ),
     )
     (λ p.

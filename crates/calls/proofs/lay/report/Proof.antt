@@ -4,15 +4,15 @@ use borrow.Author.Needs.{needs}
 use borrow.Author.Tests.{lt-ltb, le-ltb}
 use lib.ListN.{length}
 use Rattle.calls.specs.Called.{reported}
-use Rattle.calls.proofs.Called.{code-most}
 use Rattle.calls.proofs.lay.report.Statement.{statement}
 use Rattle.calls.proofs.lay.report.Tie as tie
+use Rattle.meaning.proofs.Codes.{code-below}
 
 code-requires : tie.Need-code-requires
 code-requires c κs = search needs
 
 cast-code : tie.Need-cast-code
-cast-code c = omega (arith, c .code .ensures, code-most (c .before .before .args .answer .verdict))
+cast-code c = omega (arith, c .code .ensures, code-below (c .before .before .args .answer .verdict))
 
 returns : tie.Need-returns
 unfolding reported
