@@ -89,7 +89,8 @@ find README.md bench crates crates.txt desk docs include tables test tests tools
     function check_names(where, text,    name, count, i) {
         count = names_of(text, name)
         for (i = 1; i <= count; i++)
-            result((name[i] in there) || (("crates/" name[i]) in there) || (name[i] in defined), where " names " name[i] ", which is not there")
+            result((name[i] in defined) || (name[i] in there) || (("crates/" name[i]) in there),
+                where " names " name[i] ", which is not there")
     }
 
     # A row that ends in files, whose names stand in the text before them.
@@ -103,7 +104,7 @@ find README.md bench crates crates.txt desk docs include tables test tests tools
             result(found, where " names " name[i] ", which is not defined in " files)
         }
         for (j = 1; j <= paths; j++)
-            result(used[j], where " gives " path[j] (("crates/" path[j]) in file ? ", which defines none of its names" : ", which is no file"))
+            result(used[j], where " gives " path[j] ", which " ((("crates/" path[j]) in file) ? "defines none of its names" : "is no file"))
     }
 
     function check_edit(where, crate, wrong, law,    name, count, i, path) {
