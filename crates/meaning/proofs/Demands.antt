@@ -2,7 +2,7 @@
 -- calls and the words, specs/Demands.antt the sentences of demands 1 and 2. Each crate that has a call ties what its contract tells to such a
 -- record.
 use mathlib.Core.Path.{_≡_, refl, sym, ap, _∙_}
-use mathlib.Core.Logic.{_↔_, Iff·trans}
+use mathlib.Core.Logic.{_↔_, Iff·trans, Iff·symm}
 use mathlib.Core.Bool.{true, false}
 use mathlib.Core.List.{map, List, _++_, List·Memᴰ}
 use Prim.Native.Nat.{ℕ, _<_}
@@ -24,6 +24,7 @@ use Rattle.meaning.proofs.Codes.{code-refused}
 use Rattle.meaning.proofs.Checks.{refusal-leaves}
 use Rattle.meaning.proofs.Told.{told, solve-told, parts-told, join-told}
 use Rattle.meaning.proofs.Sound.{passes-paired}
+use Rattle.meaning.proofs.SameRecords.{same-bytes}
 use Rattle.meaning.proofs.Union.{controllers-sum, worlds-sum}
 use Rattle.meaning.proofs.JoinOrder.{across-twice, joined-swapped}
 use Rattle.meaning.proofs.Join.{joined-union, joined-passes, join-makes, join-grants, bytes-grouped, pair-swapped, pair-then}
@@ -125,6 +126,15 @@ join-swapped one two p call swap room-call room-swap r =
       records-back (joined (recordsOf one) (recordsOf two)),
       records-back (joined (recordsOf two) (recordsOf one)),
     ) (joined-swapped (recordsOf one) (recordsOf two) (passes-paired one two p) r)
+
+-- which fixes its bytes: no other good table has those records,
+pub swapped-bytes : (one two : List ℕ) → Two one two → (call : JoinCall one two) (swap : JoinCall two one) → AcceptedJoin (call .lent)
+    → AcceptedJoin (swap .lent) → (bytes : List ℕ) → Passes (tableChecks 0 bytes)
+    → ((r : Record) → List·Memᴰ r (recordsOf bytes) ↔ List·Memᴰ r (map (recordAcross one two) (recordsOf (wrote (call .left)))))
+    → bytes ≡ wrote (swap .left)
+swapped-bytes one two p call swap room-call room-swap bytes good same =
+    same-bytes bytes (wrote (swap .left)) good (join-good two one (pair-swapped one two p) swap room-swap .1 0)
+    (λ r. Iff·trans (same r) (Iff·symm (join-swapped one two p call swap room-call room-swap r)))
 
 -- renumbering there and back changes no state of the joined table,
 pub swapped-back : (one two : List ℕ) → Two one two

@@ -24,6 +24,7 @@ pub mod Checks
 pub mod Codes
 pub mod Answers
 pub mod Sound
+pub mod SameRecords
 -- buffers
 pub mod Buffers
 pub mod Readings

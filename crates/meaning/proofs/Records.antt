@@ -122,7 +122,7 @@ pub record Inside (r : Record) : Type 0 where
   pub to-high : r .to ≤ limit (r .kind) 3
 
 pub inside-at : (r : Record) → outside r ≡ false → Inside r
-unfolding outside
+unfolding outside limits
 inside-at r p =
     let few = ltb (r .kind) 1 in
     let many = ltb 4 (r .kind) in
@@ -141,7 +141,7 @@ inside-at r p =
     }
 
 pub inside-of : (r : Record) → Inside r → outside r ≡ false
-unfolding outside
+unfolding outside limits
 inside-of r s =
     rw (
       le-ltb (r .kind) 1 (s .kind-low),

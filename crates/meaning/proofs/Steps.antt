@@ -157,8 +157,8 @@ run-over-edge false x c = absurd (not-suc-le-zero c)
 abbrev pub brings : ℕ → Half → Position → ℕ → ℕ → ℕ
 brings K h F q p = cond (h .edge p q) (plus K (h .mark q) (count F p)) 0
 
-abbrev pub leaves : ℕ → Half → Position → ℕ → ℕ → ℕ
-leaves K h F p q = cond (h .edge p q) (count F q - h .mark q) (K + 1)
+abbrev pub allows : ℕ → Half → Position → ℕ → ℕ → ℕ
+allows K h F p q = cond (h .edge p q) (count F q - h .mark q) (K + 1)
 
 -- forward
 pub forward-length : (K : ℕ) (h : Half) (F : Position) → length (forward K h F) ≡ h .targets
@@ -239,18 +239,18 @@ back-at K h F p l = tab-at (h .sources) _ p 0 l
 
 -- each count is safe, and fits under what each target leaves
 pub back-top : (K : ℕ) (h : Half) (F : Position) (p : ℕ) → p < h .sources → count (back K h F) p ≤ K + 1
-back-top K h F p lp = rw (back-at K h F p lp) (smallest-top (K + 1) (h .targets) (leaves K h F p))
+back-top K h F p lp = rw (back-at K h F p lp) (smallest-top (K + 1) (h .targets) (allows K h F p))
 
 pub back-fits : (K : ℕ) (h : Half) (F : Position) (p q : ℕ) → p < h .sources → q < h .targets → h .edge p q ≡ true
     → count (back K h F) p ≤ count F q - h .mark q
-back-fits K h F p q lp lq e = rw (back-at K h F p lp) (rw e at (smallest-at (K + 1) (h .targets) (leaves K h F p) q lq))
+back-fits K h F p q lp lq e = rw (back-at K h F p lp) (rw e at (smallest-at (K + 1) (h .targets) (allows K h F p) q lq))
 
 -- and it is the largest that does
 pub back-over : (K : ℕ) (h : Half) (F : Position) (p b : ℕ) → p < h .sources → b ≤ K + 1
     → ((q : ℕ) → q < h .targets → h .edge p q ≡ true → b ≤ count F q - h .mark q) → b ≤ count (back K h F) p
 back-over K h F p b lp top fits =
     rw (back-at K h F p lp)
-    (smallest-of (K + 1) (h .targets) (leaves K h F p) b top
+    (smallest-of (K + 1) (h .targets) (allows K h F p) b top
     (λ q lq. over-edge (h .edge p q) (count F q - h .mark q) (K + 1) (λ c. b ≤ c) (fits q lq) (λ _. top)))
 
 pub back-safe : (K : ℕ) (h : Half) (F : Position) → safe K (back K h F) ≡ true
@@ -283,3 +283,19 @@ forward-back K h H F eH eF sH sF = (to, fro)
         forward-under K h H q (count F q) lq
         (λ p lp e. plus-minus K (h .mark q) (count H p) (count F q) (safe-at K F sF q) .1
         (le-trans (below-at H (back K h F) b p) (back-fits K h F p q lp lq e))))
+
+-- "the largest position that steps forward to something below F" is back F, whatever H, where every source has a target on the letter, as check 10
+-- grants: an overrun of H would still be one after the step
+pub forward-back-total : (K : ℕ) (h : Half) (H F : Position) → length H ≡ h .sources → length F ≡ h .targets
+    → ((p : ℕ) → p < h .sources → (q : ℕ) × (q < h .targets) × (h .edge p q ≡ true)) → safe K F ≡ true
+    → (below (forward K h H) F ≡ true) ↔ (below H (back K h F) ≡ true)
+forward-back-total K h H F eH eF leads sF =
+    (λ b. forward-back K h H F eH eF (kept b) sF .0 b, λ b. forward-back K h H F eH eF (safe-down K H (back K h F) b (back-safe K h F)) sF .1 b)
+  where
+    kept : below (forward K h H) F ≡ true → safe K H ≡ true
+    kept b =
+        safe-of K H
+        (λ p l. let lp : p < h .sources = rw eH at l in
+        let on = leads p lp in
+        plus-from-safe K (h .mark (on .0)) (count H p)
+        (omega (arith, forward-brings K h H p (on .0) lp (on .1) (on .2), below-at (forward K h H) F b (on .0), safe-at K F sF (on .0))))

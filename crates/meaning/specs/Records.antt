@@ -2,7 +2,7 @@
 use mathlib.Core.Bool.{Bool, _&&_, _||_}
 use mathlib.Core.List.{List, [], _∷_, flatMap}
 use Prim.Native.Nat.{ℕ, _-_}
-use lib.ListN.{getD}
+use lib.ListN.{length, getD}
 use lib.Dec.{eqb, ltb}
 use Rattle.meaning.specs.Lists.{keep}
 
@@ -46,17 +46,17 @@ output = 3
 abbrev pub input : ℕ
 input = 4
 
--- "The largest value of each byte for each kind is read from one table of limits": bytes 1, 2 and 3 of kinds 1 to 4
+-- "The largest value of each byte for each kind is read from one table of limits": bytes 1, 2 and 3, a row for each kind from 1 on
 unfoldable pub limits : List (List ℕ)
 limits = (7 ∷ 3 ∷ 0 ∷ []) ∷ (7 ∷ 1 ∷ 0 ∷ []) ∷ (7 ∷ 7 ∷ 7 ∷ []) ∷ (7 ∷ 7 ∷ 7 ∷ []) ∷ []
 
 unfoldable pub limit : ℕ → ℕ → ℕ
 limit kind byte = getD (getD limits (kind - 1) []) (byte - 1) 0
 
--- code 5: "a byte outside the record table above"
+-- code 5: "a byte outside the record table above": a kind without a row, or a byte over its limit
 unfoldable pub outside : Record → Bool
 outside r =
-    ltb (r .kind) 1 || ltb 4 (r .kind)
+    ltb (r .kind) 1 || ltb (length limits) (r .kind)
     || ltb (limit (r .kind) 1) (r .from) || ltb (limit (r .kind) 2) (r .letter) || ltb (limit (r .kind) 3) (r .to)
 
 -- "strictly ascending when compared as byte strings": two neighbours

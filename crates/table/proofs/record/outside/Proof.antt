@@ -19,7 +19,7 @@ no-kind r e = let low : r .kind < 1 = omega arith in rw (lt-ltb (r .kind) 1 low)
 
 module _ (r : Record) (some : r .kind ≡ 0 → ⊥) where
   past-rows : 4 ≤ r .kind - 1 → true ≡ outside r
-  unfolding outside
+  unfolding outside limits
   past-rows h =
       let from-one : 1 ≤ r .kind = omega arith in
       let over : 4 < r .kind = omega arith in
@@ -28,7 +28,7 @@ module _ (r : Record) (some : r .kind ≡ 0 → ⊥) where
   -- the kind has a row
   in-row : r .kind - 1 < 4
       → outside r ≡ (ltb (limit (r .kind) 1) (r .from) || ltb (limit (r .kind) 2) (r .letter) || ltb (limit (r .kind) 3) (r .to))
-  unfolding outside
+  unfolding outside limits
   in-row h =
       let from-one : 1 ≤ r .kind = omega arith in
       let to-four : r .kind ≤ 4 = omega arith in
