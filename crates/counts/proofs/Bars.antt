@@ -22,7 +22,7 @@ use Rattle.meaning.proofs.Steps.{same-counts}
 use Rattle.counts.specs.Cells.{cell, cells, lesserCounts, halfOf, backUnder}
 use Rattle.counts.specs.declared.position.Half.{Half}
 use Rattle.counts.proofs.Cells.{cells-at}
-use Rattle.counts.proofs.Edges.{bit-tested, bit-beyond, within, smallest-next, smallest-within}
+use Rattle.counts.proofs.Edges.{bit-beyond, within, smallest-next, smallest-within}
 use Rattle.counts.specs.Words.{countsBefore, countsIn, barCounts}
 use Rattle.counts.proofs.Lesser.{lesser-at}
 use Rattle.counts.proofs.Bytes.{countsIn-length, countsIn-low, bytes, Packed, packed-none, packed-next, packed-whole}
@@ -56,14 +56,11 @@ module _ (masks : List ℕ) (q : ℕ) where
   unfolding barCounts
   bar-at p l = tab-at 8 (barred masks q) p 0 l
 
-  pub bar-set : (p : ℕ) → p < 8 → q < 8 → (bitAnd (getD masks p 0 / 2 ^ q) 1 ≡ 0 → ⊥) → count (barCounts masks q) p ≡ 0
-  bar-set p l h n =
-      let mask = getD masks p 0 in
-      let odd : bitAnd (mask / 2 ^ q) 1 ≡ 1 = omega (arith, n, and-mask (mask / 2 ^ q) 1) in
-      bar-at p l ∙ rw (← bit-tested mask q h, odd)
+  pub bar-set : (p : ℕ) → p < 8 → bit (getD masks p 0) q ≡ true → count (barCounts masks q) p ≡ 0
+  bar-set p l e = bar-at p l ∙ rw e
 
-  pub bar-unset : (p : ℕ) → p < 8 → q < 8 → bitAnd (getD masks p 0 / 2 ^ q) 1 ≡ 0 → count (barCounts masks q) p ≡ 127
-  bar-unset p l h e = bar-at p l ∙ rw (← bit-tested (getD masks p 0) q h, e)
+  pub bar-unset : (p : ℕ) → p < 8 → bit (getD masks p 0) q ≡ false → count (barCounts masks q) p ≡ 127
+  bar-unset p l e = bar-at p l ∙ rw e
 
 -- one in each byte, and so a count in every byte
 abbrev ones : ℕ

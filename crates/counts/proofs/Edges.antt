@@ -1,4 +1,4 @@
--- The edges that masks state. The code's test of a bit is the definition's; from 8 on there is no bit and no mask. So the largest and the
+-- The edges that masks state. From 8 on there is no bit and no mask. So the largest and the
 -- smallest over a side's states are those over the eight states of an array, whatever the side's size. Assumes nothing.
 use mathlib.Core.Path.{_≡_}
 use mathlib.Core.Bool.{false, cond, and-false}
@@ -16,11 +16,6 @@ use Rattle.meaning.specs.Lists.{largest, smallest}
 use Rattle.meaning.specs.Table.{bit}
 use Rattle.meaning.proofs.Tests.{largest-at, largest-of, smallest-top, smallest-at, smallest-of}
 use Rattle.meaning.proofs.Steps.{over-edge}
-
--- the code's test of bit q
-pub bit-tested : (mask q : ℕ) → q < 8 → eqb (bitAnd (mask / 2 ^ q) 1) 1 ≡ bit mask q
-unfolding bit
-bit-tested mask q l = rw (lt-ltb q 8 l, and-mask (mask / 2 ^ q) 1)
 
 -- eight bits: no edge leads to a state from 8 on
 pub bit-beyond : (mask q : ℕ) → 8 ≤ q → bit mask q ≡ false

@@ -87,7 +87,7 @@ fn bar(half: Half, q: usize) -> u64
     let mut p = 0;
     while p < 8 {
         word = word * 256;
-        if (half.masks[p] >> q) & 1 == 0 {
+        if !masks::has(half.masks[p], q) {
             word += 127;
         }
         p += 1;

@@ -1,10 +1,12 @@
 -- `bar`: the loop's invariant is that the bar's counts at the sources before p are packed in `word`. A turn moves them up by a byte and
 -- adds the count of p, by the mask's bit. The measure is the number of sources left. Assumes nothing.
 use mathlib.Core.Logic.{⊎-elim}
+use mathlib.Core.Path.{sym, _∙_}
 use Prim.Native.Nat.{_*_, _-_}
 use native.Mathlib.Nat.{add-zero}
 use native.Mathlib.Omega.{arith}
 use borrow.Author.Needs.{needs}
+use borrow.Author.Tests.{not-true, not-false}
 use Rattle.counts.specs.Words.{barCounts}
 use Rattle.counts.proofs.Bytes.{Packed, packed-none, packed-room, packed-next, packed-whole}
 use Rattle.counts.proofs.Bars.{bar-length, bar-set, bar-unset}
@@ -25,18 +27,15 @@ mul-word c =
     let at = c .before in
     record { fits = omega (arith, packed-room _ (at .loop .p) (at .loop .word) (at .loop .inv) 0 (c .loop-test .taken) (omega arith)) }
 
-element-copy-out-if1 : tie.Need-element-copy-out-if1 Inv-loop μ-loop
-element-copy-out-if1 c = search needs
+element-copy-out-has : tie.Need-element-copy-out-has Inv-loop μ-loop
+element-copy-out-has c = search needs
 
-cast-if1 : tie.Need-cast-if1 Inv-loop μ-loop
-cast-if1 c = search needs
-
-shr-if1 : tie.Need-shr-if1 Inv-loop μ-loop
-shr-if1 c = search needs
+has-requires : tie.Need-has-requires Inv-loop μ-loop
+has-requires c κs = search needs
 
 add-word : tie.Need-add-word Inv-loop μ-loop
 add-word c =
-    let in-loop = c .before .before in
+    let in-loop = c .before .before .before in
     let at = in-loop .before in
     record { fits = packed-room _ (at .loop .p) (at .loop .word) (at .loop .inv) 127 (in-loop .loop-test .taken) (omega arith) }
 
@@ -48,7 +47,7 @@ loop-less c = search needs
 
 loop-again : tie.Need-loop-again Inv-loop μ-loop
 loop-again c =
-    let in-loop = c .before .before in
+    let in-loop = c .before .before .before in
     let at = in-loop .before in
     let given = at .before .args in
     let masks = given .t1 .masks in
@@ -57,8 +56,8 @@ loop-again c =
     let l = in-loop .loop-test .taken in
     let next = packed-next (barCounts masks q) p (at .loop .word) (at .loop .inv) in
     let long = bar-length masks q in
-    ⊎-elim (λ w. rw (w .1) (next 127 long l (omega arith) (bar-unset masks q p l (at .before .pre) (w .0 .taken))))
-    (λ w. rw (w .1, ← add-zero (at .loop .word * 256)) (next 0 long l (omega arith) (bar-set masks q p l (at .before .pre) (w .0 .left))))
+    ⊎-elim (λ w. rw (w .1) (next 127 long l (omega arith) (bar-unset masks q p l (sym (c .before .has .ensures) ∙ not-true _ (w .0 .taken)))))
+    (λ w. rw (w .1, ← add-zero (at .loop .word * 256)) (next 0 long l (omega arith) (bar-set masks q p l (sym (c .before .has .ensures) ∙ not-false _ (w .0 .left)))))
     (c .if1 .came)
 
 returns : tie.Need-returns Inv-loop μ-loop
@@ -75,9 +74,8 @@ bar-spec =
     μ-loop
     loop-holds
     mul-word
-    element-copy-out-if1
-    cast-if1
-    shr-if1
+    element-copy-out-has
+    has-requires
     add-word
     add-p
     loop-less
