@@ -9,21 +9,9 @@ use lib.ListN.{length, getD, take, set, length-append}
 use lib.Seq.{take-suc, length-take-le}
 use Rattle.meaning.specs.Lists.{written}
 use Rattle.meaning.proofs.Lists.{flatMap-length}
-use Rattle.game.proofs.Written.{written-store}
+use Rattle.game.proofs.Written.{four-stored}
 use Rattle.game.proofs.Rows.{flatMap-more}
 use Rattle.calls.specs.Called.{fourBytes}
-
--- four stores more
-pub four-stored : (old new : List ℕ) (at a b c d : ℕ) → length new ≡ at → at + 4 ≤ length old
-    → set (set (set (set (written new old) at a) (at + 1) b) (at + 2) c) (at + 3) d ≡ written (new ++ a ∷ b ∷ c ∷ d ∷ []) old
-four-stored old new at a b c d e h =
-    ap (λ (l : List ℕ). set (set (set l (at + 1) b) (at + 2) c) (at + 3) d) (written-store old new at a e (omega arith))
-    ∙ ap (λ (l : List ℕ). set (set l (at + 2) c) (at + 3) d) (more (a ∷ []) (at + 1) b (omega arith) (omega arith))
-    ∙ ap (λ (l : List ℕ). set l (at + 3) d) (more (a ∷ b ∷ []) (at + 2) c (omega arith) (omega arith))
-    ∙ more (a ∷ b ∷ c ∷ []) (at + 3) d (omega arith) (omega arith)
-  where
-    more : (xs : List ℕ) (i x : ℕ) → length new + length xs ≡ i → i < length old → set (written (new ++ xs) old) i x ≡ written (new ++ (xs ++ x ∷ [])) old
-    more xs i x p l = rw (← append-assoc new xs (x ∷ [])) (written-store old (new ++ xs) i x (length-append new xs ∙ p) l)
 
 -- a field takes four bytes
 pub four-length : (xs : List ℕ) → length (flatMap fourBytes xs) ≡ length xs * 4
