@@ -166,7 +166,7 @@ unfolding forward
 forward-length K h F = tab-length (h .targets) _
 
 pub forward-at : (K : ℕ) (h : Half) (F : Position) (q : ℕ) → q < h .targets
-    → count (forward K h F) q ≡ largest (h .sources) (λ p. cond (h .edge p q) (plus K (h .mark q) (count F p)) 0)
+    → count (forward K h F) q ≡ largest (h .sources) (brings K h F q)
 unfolding forward
 forward-at K h F q l = tab-at (h .targets) _ q 0 l
 
@@ -233,7 +233,7 @@ unfolding back
 back-length K h F = tab-length (h .sources) _
 
 pub back-at : (K : ℕ) (h : Half) (F : Position) (p : ℕ) → p < h .sources
-    → count (back K h F) p ≡ smallest (K + 1) (h .targets) (λ q. cond (h .edge p q) (count F q - h .mark q) (K + 1))
+    → count (back K h F) p ≡ smallest (K + 1) (h .targets) (allows K h F p)
 unfolding back
 back-at K h F p l = tab-at (h .sources) _ p 0 l
 
