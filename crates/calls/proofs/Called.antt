@@ -5,15 +5,10 @@ use mathlib.Core.Bool.{Bool, true, false, cond}
 use mathlib.Core.List.{List}
 use Prim.Native.Nat.{ℕ, _≤_, _<_}
 use borrow.Author.Tests.{lt-ltb, le-ltb}
-use lib.Dec.{ltb, lit≤}
+use lib.Dec.{ltb}
 use lib.ListN.{length}
 use Rattle.meaning.specs.declared.Answer.{Answer}
-use Rattle.meaning.specs.declared.Verdict.{Verdict}
-use Rattle.meaning.specs.declared.Verdict.the-variants.{Realizable, Unrealizable, Refused}
-use Rattle.meaning.specs.declared.Refusal.{Refusal}
-use Rattle.meaning.specs.declared.Refusal.the-variants.{Bound, Room, Length, Record as Recorded, Order, States, Start, Edge, Gap, Full, Nothing}
-use Rattle.meaning.specs.declared.Refusal.the-variants.{Letters, Size}
-use Rattle.meaning.specs.Answers.{numberOf, codeOf, refused, Solved, unsolved, solve, join, parts, joinedAs, solved}
+use Rattle.meaning.specs.Answers.{codeOf, refused, Solved, unsolved, solve, join, parts, joinedAs, solved}
 use Rattle.meaning.specs.Checks.{bound, room, solveChecks, partsChecks}
 use Rattle.calls.specs.Called.{reported, called, unanswered, calledSolved, joins, calledJoin}
 

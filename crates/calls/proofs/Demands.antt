@@ -1,7 +1,7 @@
--- What a caller of a call for C learns from its contract is the record of such a call, refused or not. With 24 bytes for the answer it is a call of
--- Rattle, whose code it returns, whose buffers it leaves and whose answer it lays down: so what meaning's demands say of that call holds of it. With
--- fewer it is refused by 2 or 3 and leaves every buffer as it was. Assumes nothing.
-use mathlib.Core.Path.{_≡_, refl, ap, _∙_}
+-- What a caller of a call for C learns from its contract is the record of such a call, refused or not. With 24 bytes for the answer it is
+-- a call of Rattle, whose code it returns, whose buffers it leaves and whose answer it lays down: so what meaning's demands say of that
+-- call holds of it. With fewer it is refused by 2 or 3 and leaves every buffer as it was. Assumes nothing.
+use mathlib.Core.Path.{_≡_, refl, _∙_}
 use mathlib.Core.List.{List}
 use Prim.Native.Nat.{ℕ, _≤_, _<_}
 use borrow.Fn.Kinds.{endedOf}
@@ -12,9 +12,9 @@ use denote.Ref.{now}
 use denote.Triple.Clauses.{AtExit}
 use lib.ListN.{length}
 use Rattle.meaning.specs.declared.Refusal.the-variants.{Room}
-use Rattle.meaning.specs.Answers.{numberOf, Solved, solve, parts, join}
-use Rattle.meaning.specs.Calls.{Call, SolveCall, PartsCall, JoinCall}
-use Rattle.calls.specs.Called.{Lent, LentToJoin, CSolveCall, CPartsCall, CJoinCall, Heard, HeardJoin, called, joins, unanswered}
+use Rattle.meaning.specs.Answers.{numberOf, solve, parts, join}
+use Rattle.meaning.specs.Calls.{SolveCall, PartsCall, JoinCall}
+use Rattle.calls.specs.Called.{CSolveCall, CPartsCall, CJoinCall, Heard, HeardJoin, called, joins, unanswered}
 use Rattle.calls.specs.Called.{calledSolved, calledSolve, calledParts, calledJoin}
 use Rattle.calls.proofs.Whole.{said, solve-fits, parts-fits, join-fits}
 use Rattle.calls.proofs.desk_solve as solveCode
@@ -33,7 +33,11 @@ pub c-solve-learnt : (κs : Lfts 4) (args : ArgsD solveCode.signature κs) (resu
     → CSolveCall (now (args .0)) (args .1 .0) (args .1 .1 .0)
 c-solve-learnt κs args result after learnt =
     record {
-      lent = record { winnersBefore = now (args .1 .1 .1 .0); controllerBefore = now (args .1 .1 .1 .1 .0); answerBefore = now (args .1 .1 .1 .1 .1 .0) };
+      lent = record {
+        winnersBefore = now (args .1 .1 .1 .0);
+        controllerBefore = now (args .1 .1 .1 .1 .0);
+        answerBefore = now (args .1 .1 .1 .1 .1 .0);
+      };
       left = called result (now (after .1 .1 .1 .0)) (now (after .1 .1 .1 .1 .0)) (now (after .1 .1 .1 .1 .1 .0));
       promise = learnt;
     }

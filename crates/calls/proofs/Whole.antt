@@ -6,7 +6,7 @@ use mathlib.Core.List.{List, [], _∷_, _++_, flatMap}
 use Prim.Native.Nat.{ℕ, _+_, _*_, _/_, _%_, _^_, _≤_, _<_, zero-le}
 use native.Mathlib.Nat.{div-div-eq-div-mul}
 use native.Mathlib.Omega.{arith}
-use borrow.Author.Tests.{ltb-true, ltb-false, le-ltb}
+use borrow.Author.Tests.{ltb-true, ltb-false}
 use lib.Dec.{eqb, ltb, lit<, lit≤}
 use lib.ListN.{length, take, drop}
 use lib.Seq.{take-at}
@@ -32,7 +32,7 @@ use Rattle.meaning.proofs.JoinGood.{joined-length, joined-sound}
 use Rattle.table.proofs.Records.{records-count}
 use Rattle.game.proofs.Settled.{rounds-few}
 use Rattle.game.proofs.InOrder.{room-within}
-use Rattle.calls.specs.Called.{fields, fourBytes, answerBytes, calledSolved, calledSolve, calledParts, calledJoin, numbersIn}
+use Rattle.calls.specs.Called.{fields, fourBytes, answerBytes, numbersIn}
 use Rattle.calls.proofs.Laid.{four-length}
 use Rattle.meaning.proofs.Codes.{code-below}
 

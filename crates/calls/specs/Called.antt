@@ -38,7 +38,7 @@ pub record Called : Type 0 where
 abbrev pub called : ℕ → List ℕ → List ℕ → List ℕ → Called
 called result win con ans = record { result = result; winnersAfter = win; controllerAfter = con; answerAfter = ans }
 
--- "an answer buffer under 24 bytes is itself refused with 3, checked together with the other room of 3": so 2 comes before it
+-- an answer buffer under 24 bytes is refused with 3, together with the other room of 3: so 2 comes before it
 abbrev pub unanswered : ℕ → ℕ
 unanswered K = cond (ltb 7 K) (numberOf Bound) (numberOf Room)
 
@@ -98,8 +98,8 @@ numbersIn (a ∷ b ∷ []) = []
 numbersIn (a ∷ b ∷ c ∷ []) = []
 numbersIn (a ∷ b ∷ c ∷ d ∷ rest) = (a + 256 * b + 65536 * c + 16777216 * d) ∷ numbersIn rest
 
--- A call for C that solves is a call of Rattle, with the same buffers before and afterwards: its result is the code, and the first 24 bytes of the
--- answer's buffer say the answer
+-- A call for C that solves is a call of Rattle, with the same buffers before and afterwards: its result is the code, and the first 24
+-- bytes of the answer's buffer say the answer
 pub record Heard {outcome : Solving.Lent → Solved} (lent : Lent) (left : Called) (call : Call outcome) : Type 0 where
   pub winners-lent : call .lent .winnersBefore ≡ lent .winnersBefore
   pub controller-lent : call .lent .controllerBefore ≡ lent .controllerBefore

@@ -17,7 +17,8 @@ pub extern "C" fn desk_solve(
     controller: &mut [u8],
     answer: &mut [u8],
 ) -> u32
-    ensures { λ r. ⌜ called r (now (winners .exit)) (now (controller .exit)) (now (answer .exit)) ≡ calledSolve (now (table .entry)) k room (now (winners .entry)) (now (controller .entry)) (now (answer .entry)) ⌝ }
+    ensures { λ r. ⌜ called r (now (winners .exit)) (now (controller .exit)) (now (answer .exit))
+        ≡ calledSolve (now (table .entry)) k room (now (winners .entry)) (now (controller .entry)) (now (answer .entry)) ⌝ }
 {
     let room = answered_room(room, answer.len());
     let solved = game::solve(table, k as usize, room, winners, controller);
@@ -27,7 +28,8 @@ pub extern "C" fn desk_solve(
 // Joins two tables into one.
 #[no_mangle]
 pub extern "C" fn desk_join(first: &[u8], second: &[u8], out: &mut [u8], answer: &mut [u8]) -> u32
-    ensures { λ r. ⌜ joins r (now (out .exit)) (now (answer .exit)) ≡ calledJoin (now (first .entry)) (now (second .entry)) (now (out .entry)) (now (answer .entry)) ⌝ }
+    ensures { λ r. ⌜ joins r (now (out .exit)) (now (answer .exit))
+        ≡ calledJoin (now (first .entry)) (now (second .entry)) (now (out .entry)) (now (answer .entry)) ⌝ }
 {
     if answer.len() < 24 {
         return 3;
@@ -47,7 +49,9 @@ pub extern "C" fn desk_parts(
     controller: &mut [u8],
     answer: &mut [u8],
 ) -> u32
-    ensures { λ r. ⌜ called r (now (winners .exit)) (now (controller .exit)) (now (answer .exit)) ≡ calledParts (now (first .entry)) (now (second .entry)) k room (now (winners .entry)) (now (controller .entry)) (now (answer .entry)) ⌝ }
+    ensures { λ r. ⌜ called r (now (winners .exit)) (now (controller .exit)) (now (answer .exit))
+        ≡ calledParts (now (first .entry)) (now (second .entry)) k room (now (winners .entry)) (now (controller .entry))
+        (now (answer .entry)) ⌝ }
 {
     let room = answered_room(room, answer.len());
     let solved = join::parts(first, second, k as usize, room, winners, controller);

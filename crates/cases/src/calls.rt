@@ -66,7 +66,8 @@ pub fn parts(name: &[u8], first: &[u8], second: &[u8], k: usize, room: usize) {
 // Joins two tables into a lent buffer of 9s, and answers how many bytes that wrote.
 pub fn joined(name: &[u8], first: &[u8], second: &[u8], out: &mut [u8]) -> usize
     ensures bytes { λ n. ⌜ now (out .exit) ≡ joinOf (now (first .entry)) (now (second .entry)) (now (out .entry)) .outAfter ⌝ }
-    ensures number { λ n. ⌜ (let answer = joinOf (now (first .entry)) (now (second .entry)) (now (out .entry)) .answer in n ≡ cond (eqb (codeOf (answer .verdict)) 0) (answer .place) 0) ⌝ }
+    ensures number { λ n. ⌜ (let answer = joinOf (now (first .entry)) (now (second .entry)) (now (out .entry)) .answer in n
+        ≡ cond (eqb (codeOf (answer .verdict)) 0) (answer .place) 0) ⌝ }
     ensures within { λ n. ⌜ Counts n (now (out .exit)) ⌝ }
 {
     let answer = join::join(first, second, out);

@@ -3,14 +3,13 @@
 use mathlib.Core.Path.{_≡_}
 use mathlib.Core.Bool.{false, cond, and-false}
 use mathlib.Core.List.{List}
-use Prim.Native.Nat.{ℕ, _+_, _≤_, _<_, _/_, _^_, zero-le, max, min}
+use Prim.Native.Nat.{ℕ, _+_, _≤_, _<_, _^_, zero-le, max, min}
 use native.Mathlib.Nat.{le-antisymm, zero-div}
 use native.Mathlib.Decide.{decLt}
 use native.Mathlib.Numerals.{add-one}
 use native.Mathlib.Omega.{arith}
 use borrow.Author.Tests.{ltb-true, lt-ltb, le-ltb}
-use lib.Bits.{bitAnd, and-mask}
-use lib.Dec.{eqb, ltb}
+use lib.Dec.{ltb}
 use lib.ListN.{length, getD, List·getD-eq-default}
 use Rattle.meaning.specs.Lists.{largest, smallest}
 use Rattle.meaning.specs.Table.{bit}

@@ -6,7 +6,6 @@ ghost use Rattle.meaning.specs.Lists.{largest, tab};
 ghost use Rattle.meaning.specs.Counting.{oneHigher, below as belowAll, forward as forwardBy};
 ghost use Rattle.counts.specs.Cells.{cells, sameCounts, halfOf, brought, startCounts};
 ghost use Rattle.meaning.specs.Written.{positionBytes};
-ghost use Rattle.meaning.specs.Table.{bit};
 
 // One letter's half of a round: for each source a byte of targets, for each target its mark.
 pub struct Half {

@@ -1,17 +1,13 @@
 -- Document 01, "What is written" and codes 0, 1 and 12, from a list of winners alone.
-use mathlib.Core.Bool.{Bool, cond}
-use mathlib.Core.List.{List, [], _∷_, flatMap}
+use mathlib.Core.Bool.{cond}
+use mathlib.Core.List.{List, [], _∷_}
 use Prim.Native.Nat.{ℕ, _-_, _*_, _≤_, _<_}
 use lib.ListN.{length, getD}
-use lib.Dec.{eqb, leb, ltb}
-use Rattle.meaning.specs.declared.Answer.{Answer}
-use Rattle.meaning.specs.declared.Verdict.the-variants.{Realizable, Unrealizable}
+use lib.Dec.{eqb, leb}
 use Rattle.meaning.specs.declared.Refusal.the-variants.{Nothing}
-use Rattle.meaning.specs.Lists.{each, any, written}
 use Rattle.meaning.specs.Table.{Table, Good}
-use Rattle.meaning.specs.Counting.{Position, below, covered}
-use Rattle.meaning.specs.Rounds.{Set}
-use Rattle.meaning.specs.Written.{Row, winnersBytes, afterRound, outputOf, startState, stateOrder, rowBytes, rowsOfState}
+use Rattle.meaning.specs.Counting.{Position, covered}
+use Rattle.meaning.specs.Written.{outputOf}
 use Rattle.meaning.specs.Answers.{Solved, unsolved, answered}
 use Rattle.meaning.specs.Checks.{check, judge}
 use Rattle.sets.specs.Engine.{Small}

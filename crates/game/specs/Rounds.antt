@@ -6,9 +6,9 @@ use Prim.Native.Nat.{ℕ, suc, _≤_, _<_, max}
 use lib.Dec.{eqb, ltb}
 use lib.IntN.{ℤ}
 use lib.ListN.{length}
-use Rattle.meaning.specs.Lists.{any, largest}
+use Rattle.meaning.specs.Lists.{largest}
 use Rattle.meaning.specs.Table.{Table}
-use Rattle.meaning.specs.Counting.{Position, below, covered}
+use Rattle.meaning.specs.Counting.{Position, covered}
 use Rattle.meaning.specs.Rounds.{Set, rounds, full, FirstSet}
 use Rattle.meaning.specs.Written.{positionBytes, winners}
 use Rattle.sets.specs.Engine.{listA, listB, Small, StandsFor}
@@ -23,7 +23,8 @@ use Rattle.game.specs.declared.rounds.Settled.the-variants.{After, Full 
 unfoldable pub coveredBy : ℕ → List Position → Set
 coveredBy n l F = eqb (length F) n && covered l (positionBytes F)
 
--- what the rounds ask of a first list: it has the maximal members of a first set, and the table has an output and at most eight states a side
+-- what the rounds ask of a first list: it has the maximal members of a first set, and the table has an output and at most eight states a
+-- side
 pub record FirstList (K : ℕ) (t : Table) (l : List Position) : Type 0 where
   pub small : Small t
   pub some-output : 0 < t .outputs

@@ -38,14 +38,20 @@ pub fn finish(
     winners: &mut [u8],
     controller: &mut [u8],
 ) -> Answer
-    requires { ⌜ (n ≤ length (now list)) × Playable k (tableIn table) (members (now list) n) × Roomy (members (now list) n) (now winners) (now controller) ⌝ }
-    ensures { λ r. ⌜ solved r (now (winners .exit)) (now (controller .exit)) ≡ finished k (tableIn table) (members (now (list .entry)) n) rounds (now (winners .entry)) (now (controller .entry)) ⌝ }
+    requires { ⌜ (n ≤ length (now list)) × Playable k (tableIn table) (members (now list) n)
+        × Roomy (members (now list) n) (now winners) (now controller) ⌝ }
+    ensures { λ r. ⌜ solved r (now (winners .exit)) (now (controller .exit))
+        ≡ finished k (tableIn table) (members (now (list .entry)) n) rounds (now (winners .entry)) (now (controller .entry)) ⌝ }
 {
     if n == 0 {
         return refused(Refusal::Nothing, 0, 0);
     }
     write::write_winners(list, n, winners);
-    let start = write::covering(list, n, &position::start(table.starts, table.controllers, k));
+    let start = write::covering(
+        list,
+        n,
+        &position::start(table.starts, table.controllers, k),
+    );
     if n <= start {
         return Answer {
             verdict: Verdict::Unrealizable,

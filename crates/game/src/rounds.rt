@@ -6,14 +6,11 @@ use sets::list;
 use sets::named;
 use sets::tops::Found;
 use table::Table;
-ghost use mathlib.Core.Path.{_≡_};
 ghost use Prim.Native.Nat.{_≤_, _<_};
 ghost use lib.ListN.{length};
 ghost use Rattle.meaning.specs.Rounds.{allSafe};
-ghost use Rattle.meaning.specs.Written.{positionBytes};
-ghost use Rattle.counts.specs.Cells.{cells};
 ghost use Rattle.table.specs.Packed.{tableIn};
-ghost use Rattle.sets.specs.Engine.{brim as brimOf, listA, listB, nextList, Small};
+ghost use Rattle.sets.specs.Engine.{listA, listB, nextList, Small};
 ghost use Rattle.sets.specs.Members.{members};
 ghost use Rattle.game.specs.Rounds.{coveredBy, FirstList, widestA, widestB, widestOf, HoldsLast, Settles};
 
@@ -109,8 +106,10 @@ pub fn settle(
     n: usize,
     out: &mut [[i8; 8]],
 ) -> Settled
-    requires { ⌜ (k ≤ 7) × (n ≤ length (now first)) × (1 ≤ room) × (room ≤ 256) × (room ≤ length (now out)) × FirstList k (tableIn table) (members (now first) n) ⌝ }
-    ensures { λ r. ⌜ Settles k (tableIn table) (coveredBy (tableIn table .controllers) (members (now (first .entry)) n)) room (now (out .exit)) r ⌝ }
+    requires { ⌜ (k ≤ 7) × (n ≤ length (now first)) × (1 ≤ room) × (room ≤ 256) × (room ≤ length (now out))
+        × FirstList k (tableIn table) (members (now first) n) ⌝ }
+    ensures { λ r. ⌜ Settles k (tableIn table) (coveredBy (tableIn table .controllers) (members (now (first .entry)) n)) room
+        (now (out .exit)) r ⌝ }
 {
     if room < n {
         return Settled::Full;

@@ -113,8 +113,11 @@ fn write_state(
     state: usize,
     controller: &mut [u8],
 )
-    requires { ⌜ (n ≤ length (now list)) × (state < n) × Playable k (tableIn table) (members (now list) n) × (table .inputs * 4 ≤ length (now controller)) ⌝ }
-    ensures { λ _. ⌜ now (controller .exit) ≡ written (rowBytes (rowsOfState k (tableIn table) (covered (members (now (list .entry)) n)) (members (now (list .entry)) n) state)) (now (controller .entry)) ⌝ }
+    requires { ⌜ (n ≤ length (now list)) × (state < n) × Playable k (tableIn table) (members (now list) n)
+        × (table .inputs * 4 ≤ length (now controller)) ⌝ }
+    ensures { λ _. ⌜ now (controller .exit)
+        ≡ written (rowBytes (rowsOfState k (tableIn table) (covered (members (now (list .entry)) n)) (members
+        (now (list .entry)) n) state)) (now (controller .entry)) ⌝ }
 {
     let p = list[state];
     let output = output_of(table, k, list, n, &p);
@@ -153,8 +156,11 @@ pub fn write_rows(
     start: usize,
     controller: &mut [u8],
 )
-    requires { ⌜ (n ≤ length (now list)) × (start < n) × Playable k (tableIn table) (members (now list) n) × (32 * n ≤ length (now controller)) ⌝ }
-    ensures { λ _. ⌜ now (controller .exit) ≡ written (rowBytes (rowsFrom k (tableIn table) (covered (members (now (list .entry)) n)) (members (now (list .entry)) n) start)) (now (controller .entry)) ⌝ }
+    requires { ⌜ (n ≤ length (now list)) × (start < n) × Playable k (tableIn table) (members (now list) n)
+        × (32 * n ≤ length (now controller)) ⌝ }
+    ensures { λ _. ⌜ now (controller .exit)
+        ≡ written (rowBytes (rowsFrom k (tableIn table) (covered (members (now (list .entry)) n)) (members
+        (now (list .entry)) n) start)) (now (controller .entry)) ⌝ }
 {
     let mut at = 0;
     let mut b = 0;

@@ -1,5 +1,5 @@
--- What a caller of `join` or of `parts` learns from its contract is the record of a call (meaning/specs/Calls.antt), refused or not, whatever the room: so
--- what meaning's demands say of such calls holds of the code. Assumes nothing.
+-- What a caller of `join` or of `parts` learns from its contract is the record of a call (meaning/specs/Calls.antt), refused or not,
+-- whatever the room: so what meaning's demands say of such calls holds of the code. Assumes nothing.
 use borrow.Fn.Kinds.{endedOf}
 use borrow.Fn.World.{ArgsD, ResD}
 use contract.Lifetimes.{Lfts}

@@ -13,7 +13,7 @@ use Rattle.meaning.specs.declared.Refusal.the-variants.{Full}
 use Rattle.meaning.specs.Records.{recordsOf, output, input}
 use Rattle.meaning.specs.Table.{Table, tableOf, stated}
 use Rattle.meaning.specs.Counting.{Position}
-use Rattle.meaning.specs.Rounds.{Set, allSafe, winning, maximalMembers, FirstSet}
+use Rattle.meaning.specs.Rounds.{allSafe, winning, maximalMembers, FirstSet}
 use Rattle.meaning.specs.Written.{positionBytes, winners}
 use Rattle.meaning.specs.Join.{joined, pairs, joinedBytes, joinedTable}
 use Rattle.meaning.specs.Answers.{unsolved, solvedFrom, parts, staged}
@@ -30,15 +30,13 @@ use Rattle.meaning.proofs.Join.{joined-union, joined-good, joined-passes}
 use Rattle.table.specs.declared.Table as T
 use Rattle.table.specs.Packed.{tableIn, packed}
 use Rattle.table.proofs.Good.{good-table}
-use Rattle.sets.specs.Members.{members}
 use Rattle.sets.specs.Engine.{Small}
 use Rattle.sets.proofs.Engine.{stands-length, members-sized}
 use Rattle.game.specs.declared.rounds.Settled.{Settled}
 use Rattle.game.specs.declared.rounds.Settled.the-variants as S
 use Rattle.game.specs.Rounds.{coveredBy, FirstList, Settles}
-use Rattle.game.specs.Finished.{Playable, Fit}
+use Rattle.game.specs.Finished.{Fit}
 use Rattle.game.proofs.First.{passes-small, first-covered, first-list}
-use Rattle.game.proofs.Listed.{listed, listed-playable}
 use Rattle.join.specs.Beside.{allBeside}
 use Rattle.join.specs.Parts.{FirstPairs, lastStage, inTurn}
 use Rattle.join.proofs.Pairs.{all-wide}

@@ -4,8 +4,8 @@ use mathlib.Core.List.{List, map}
 use Prim.Native.Nat.{ℕ, _+_}
 use lib.ListN.{length}
 use lib.Seq.{sets}
-use Rattle.meaning.specs.Records.{Record, recordsOf, bytesOf, ofKind}
-use Rattle.meaning.specs.Join.{renumber, joined}
+use Rattle.meaning.specs.Records.{Record, bytesOf, ofKind}
+use Rattle.meaning.specs.Join.{renumber}
 use Rattle.meaning.specs.Checks.{Check, judge}
 use Rattle.join.specs.declared.pair.Paired.{Paired}
 use Rattle.join.specs.declared.pair.Paired.the-variants.{Passes, Fails}

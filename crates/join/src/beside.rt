@@ -28,7 +28,8 @@ pub fn beside(a: &[i8; 8], n: usize, b: &[i8; 8]) -> [i8; 8]
 // Puts after the first `at` members of `out` a position beside each of a list.
 fn append(a: &[i8; 8], n: usize, b: &[[i8; 8]], bn: usize, out: &mut [[i8; 8]], at: usize)
     requires { ⌜ (bn ≤ length (now b)) × (at + bn ≤ length (now out)) ⌝ }
-    ensures { λ _. ⌜ members (now (out .exit)) (at + bn) ≡ members (now (out .entry)) at ++ map (besideAt n (cells (now (a .entry)))) (members (now (b .entry)) bn) ⌝ }
+    ensures { λ _. ⌜ members (now (out .exit)) (at + bn)
+        ≡ members (now (out .entry)) at ++ map (besideAt n (cells (now (a .entry)))) (members (now (b .entry)) bn) ⌝ }
 {
     let mut j = 0;
     while j < bn {

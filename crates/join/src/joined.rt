@@ -51,7 +51,8 @@ fn append(bytes: &[u8], kind: u8, up: Sides, out: &mut [u8], start: usize) -> us
     requires pass { ⌜ checkedOf (tableChecks 0 (now bytes)) ≡ Checked.Passes ⌝ }
     requires few { ⌜ (up .controllers ≤ 8) × (up .worlds ≤ 8) ⌝ }
     requires room { ⌜ start + length (movedBytes (up .controllers) (up .worlds) kind (recordsOf (now bytes))) ≤ length (now out) ⌝ }
-    ensures { λ end. ⌜ Stored (now (out .entry)) start (movedBytes (up .controllers) (up .worlds) kind (recordsOf (now (bytes .entry)))) (now (out .exit)) end ⌝ }
+    ensures { λ end. ⌜ Stored (now (out .entry)) start (movedBytes (up .controllers) (up .worlds) kind (recordsOf
+        (now (bytes .entry)))) (now (out .exit)) end ⌝ }
 {
     let mut end = start;
     let mut i = 0;

@@ -44,7 +44,8 @@ pub fn parts(
     winners: &mut [u8],
     controller: &mut [u8],
 ) -> Answer
-    ensures { λ r. ⌜ solved r (now (winners .exit)) (now (controller .exit)) ≡ partsOf (now (first .entry)) (now (second .entry)) k room (now (winners .entry)) (now (controller .entry)) ⌝ }
+    ensures { λ r. ⌜ solved r (now (winners .exit)) (now (controller .exit))
+        ≡ partsOf (now (first .entry)) (now (second .entry)) k room (now (winners .entry)) (now (controller .entry)) ⌝ }
 {
     if 7 < k {
         return finish::refused(Refusal::Bound, 0, 0);

@@ -12,9 +12,8 @@ use sets::tops::Found;
 use table::Table;
 use table::read;
 ghost use mathlib.Core.Path.{_≡_};
-ghost use mathlib.Core.Bool.{false, _||_};
-ghost use Prim.Native.Nat.{_*_, _≤_, _<_};
-ghost use lib.Dec.{eqb, ltb};
+ghost use mathlib.Core.Bool.{false};
+ghost use Prim.Native.Nat.{_≤_};
 ghost use lib.ListN.{length};
 ghost use Rattle.meaning.specs.Records.{recordsOf};
 ghost use Rattle.meaning.specs.Table.{tableOf};
@@ -22,10 +21,8 @@ ghost use Rattle.meaning.specs.Rounds.{allSafe};
 ghost use Rattle.meaning.specs.Checks.{room as roomFor, tableChecks, pairChecks};
 ghost use Rattle.meaning.specs.Answers.{solved};
 ghost use Rattle.table.specs.declared.Checked.{Checked};
-ghost use Rattle.table.specs.Packed.{tableIn};
 ghost use Rattle.table.specs.Checked.{checkedOf};
 ghost use Rattle.sets.specs.Members.{members};
-ghost use Rattle.sets.specs.Engine.{Small};
 ghost use Rattle.game.specs.Rounds.{Settles};
 ghost use Rattle.join.specs.declared.pair.Paired.{Paired};
 ghost use Rattle.join.specs.Joined.{pairedOf};
@@ -33,8 +30,10 @@ ghost use Rattle.join.specs.Parts.{FirstPairs, lastStage, inTurn};
 
 // The rounds of one table alone.
 fn alone(bytes: &[u8], k: usize, room: usize, out: &mut [[i8; 8]]) -> Settled
-    requires { ⌜ (k ≤ 7) × (1 ≤ room) × (room ≤ 256) × (room ≤ length (now out)) × (checkedOf (tableChecks 0 (now bytes)) ≡ Checked.Passes) ⌝ }
-    ensures { λ r. ⌜ Settles k (tableOf (recordsOf (now (bytes .entry)))) (allSafe k (tableOf (recordsOf (now (bytes .entry))) .controllers)) room (now (out .exit)) r ⌝ }
+    requires { ⌜ (k ≤ 7) × (1 ≤ room) × (room ≤ 256) × (room ≤ length (now out)) × (checkedOf (tableChecks 0 (now bytes))
+        ≡ Checked.Passes) ⌝ }
+    ensures { λ r. ⌜ Settles k (tableOf (recordsOf (now (bytes .entry)))) (allSafe k (tableOf (recordsOf
+        (now (bytes .entry))) .controllers)) room (now (out .exit)) r ⌝ }
 {
     rounds::settle_all(read::read(bytes), k, room, out)
 }
@@ -50,9 +49,11 @@ fn last(
     winners: &mut [u8],
     controller: &mut [u8],
 ) -> Answer
-    requires pass { ⌜ (k ≤ 7) × (roomFor room (now winners) (now controller) .failed ≡ false) × (pairedOf (pairChecks (now first) (now second)) ≡ Paired.Passes) ⌝ }
+    requires pass { ⌜ (k ≤ 7) × (roomFor room (now winners) (now controller) .failed
+        ≡ false) × (pairedOf (pairChecks (now first) (now second)) ≡ Paired.Passes) ⌝ }
     requires pairs { ⌜ (n ≤ length (now list)) × FirstPairs (now first) (now second) k (members (now list) n) ⌝ }
-    ensures { λ r. ⌜ solved r (now (winners .exit)) (now (controller .exit)) ≡ lastStage (now (first .entry)) (now (second .entry)) k room (now (winners .entry)) (now (controller .entry)) ⌝ }
+    ensures { λ r. ⌜ solved r (now (winners .exit)) (now (controller .exit))
+        ≡ lastStage (now (first .entry)) (now (second .entry)) k room (now (winners .entry)) (now (controller .entry)) ⌝ }
 {
     let mut bytes = [0u8; 4160];
     let size = joined::write(first, second, &mut bytes);
@@ -70,8 +71,10 @@ pub fn in_turn(
     winners: &mut [u8],
     controller: &mut [u8],
 ) -> Answer
-    requires { ⌜ (k ≤ 7) × (roomFor room (now winners) (now controller) .failed ≡ false) × (pairedOf (pairChecks (now first) (now second)) ≡ Paired.Passes) ⌝ }
-    ensures { λ r. ⌜ solved r (now (winners .exit)) (now (controller .exit)) ≡ inTurn (now (first .entry)) (now (second .entry)) k room (now (winners .entry)) (now (controller .entry)) ⌝ }
+    requires { ⌜ (k ≤ 7) × (roomFor room (now winners) (now controller) .failed
+        ≡ false) × (pairedOf (pairChecks (now first) (now second)) ≡ Paired.Passes) ⌝ }
+    ensures { λ r. ⌜ solved r (now (winners .exit)) (now (controller .exit))
+        ≡ inTurn (now (first .entry)) (now (second .entry)) k room (now (winners .entry)) (now (controller .entry)) ⌝ }
 {
     let mut ones = [[-1i8; 8]; 256];
     let alone_first = alone(first, k, room, &mut ones);

@@ -1,6 +1,6 @@
--- The demands of document 00, line by line, for whatever a caller learns from a call, refused or not: specs/Calls.antt has the records of the
--- calls and the words, specs/Demands.antt the sentences of demands 1 and 2. Each crate that has a call ties what its contract tells to such a
--- record.
+-- The demands of document 00, line by line, for whatever a caller learns from a call, refused or not: specs/Calls.antt has the records of
+-- the calls and the words, specs/Demands.antt the sentences of demands 1 and 2. Each crate that has a call ties what its contract tells to
+-- such a record.
 use mathlib.Core.Path.{_≡_, refl, sym, ap, _∙_}
 use mathlib.Core.Logic.{_↔_, Iff·trans, Iff·symm}
 use mathlib.Core.Bool.{true, false}
@@ -35,7 +35,8 @@ use Rattle.meaning.proofs.Afresh.{parts-agree}
 use Rattle.meaning.proofs.Alike.{SameNumbers, swap-answers, swap-wins, self-answers, self-wins-alike}
 
 -- ── 1 and 2 ──
--- "Every table, patience count and room gets an answer.": each of these holds for every table, K, room and buffers, and the kit proves that the
+-- "Every table, patience count and room gets an answer.": each of these holds for every table, K, room and buffers, and the kit proves
+-- that the
 -- code ends
 module _ (bytes : List ℕ) (K N : ℕ) (call : SolveCall bytes K N) where
   pub solve-refuses : Refuses (solveChecks bytes K N (call .lent .winnersBefore) (call .lent .controllerBefore)) (call .left .answer)
@@ -50,7 +51,8 @@ module _ (bytes : List ℕ) (K N : ℕ) (call : SolveCall bytes K N) where
   pub solve-full-exactly : bound K .failed ≡ false → Accepted N (call .lent) → Passes (tableChecks 0 bytes)
       → (code (call .left .answer) ≡ 11) ↔ TableFull bytes K N
   solve-full-exactly b accepted p =
-      Iff·trans (solve-refuses .in-order Full) (solve-full bytes K N (call .lent .winnersBefore) (call .lent .controllerBefore) b accepted p)
+      Iff·trans (solve-refuses .in-order Full)
+      (solve-full bytes K N (call .lent .winnersBefore) (call .lent .controllerBefore) b accepted p)
 
 -- by parts, where the table is the joined one
 module _ (one two : List ℕ) (K N : ℕ) (call : PartsCall one two K N) where
@@ -66,7 +68,8 @@ module _ (one two : List ℕ) (K N : ℕ) (call : PartsCall one two K N) where
   pub parts-full-exactly : bound K .failed ≡ false → Accepted N (call .lent) → Two one two
       → (code (call .left .answer) ≡ 11) ↔ PartsFull one two K N
   parts-full-exactly b accepted p =
-      Iff·trans (parts-refuses .in-order Full) (parts-full one two K N (call .lent .winnersBefore) (call .lent .controllerBefore) b accepted p)
+      Iff·trans (parts-refuses .in-order Full)
+      (parts-full one two K N (call .lent .winnersBefore) (call .lent .controllerBefore) b accepted p)
 
 -- a join
 pub join-refuses : (one two : List ℕ) (call : JoinCall one two)
@@ -81,7 +84,8 @@ join-refuses one two call =
     }
 
 -- ── 3 ──
--- "Take good tables with the same letters, one K, room that reason 3 accepts, and a joined size within limits.": `Two` and `Three` tables, and
+-- "Take good tables with the same letters, one K, room that reason 3 accepts, and a joined size within limits.": `Two` and `Three` tables,
+-- and
 -- `Accepted` room, each call with its own buffers
 -- the join of good tables is a good table
 pub join-good : (one two : List ℕ) → Two one two → (call : JoinCall one two) → AcceptedJoin (call .lent)
@@ -93,12 +97,15 @@ join-good one two p call room =
     )
 
 -- what it wrote
-wrote-joined : (one two : List ℕ) → Two one two → (call : JoinCall one two) → AcceptedJoin (call .lent) → wrote (call .left) ≡ joinedBytes one two
+wrote-joined : (one two : List ℕ) → Two one two → (call : JoinCall one two) → AcceptedJoin (call .lent)
+    → wrote (call .left) ≡ joinedBytes one two
 wrote-joined one two p call room = told call (λ j. wrote j ≡ joinedBytes one two) (join-makes one two (call .lent) room p)
 
 -- "Joining may be grouped anyhow with equal bytes": neither is refused, and the bytes are the same
-pub join-grouped : (a b c : List ℕ) → Three a b c → (ab : JoinCall a b) (bc : JoinCall b c) → AcceptedJoin (ab .lent) → AcceptedJoin (bc .lent)
-    → (then : JoinCall (wrote (ab .left)) c) (after : JoinCall a (wrote (bc .left))) → AcceptedJoin (then .lent) → AcceptedJoin (after .lent)
+pub join-grouped : (a b c : List ℕ) → Three a b c → (ab : JoinCall a b) (bc : JoinCall b c) → AcceptedJoin (ab .lent)
+    → AcceptedJoin (bc .lent)
+    → (then : JoinCall (wrote (ab .left)) c) (after : JoinCall a (wrote (bc .left))) → AcceptedJoin (then .lent)
+    → AcceptedJoin (after .lent)
     → (code (then .left .answer) ≡ 0) × (code (after .left .answer) ≡ 0) × (wrote (then .left) ≡ wrote (after .left))
 join-grouped a b c three ab bc room-ab room-bc then after room-then room-after =
     let first = wrote-joined a b (three .first-two) ab room-ab in
@@ -157,7 +164,8 @@ swapped-wins = swap-wins
 -- and so the codes, the rounds and the numbers of winners are the same, wherever neither was refused as full
 pub swapped-verdict : (one two : List ℕ) (K N M : ℕ) → Two one two → (call : JoinCall one two) (swap : JoinCall two one)
     → AcceptedJoin (call .lent) → AcceptedJoin (swap .lent)
-    → (here : SolveCall (wrote (call .left)) K N) (there : SolveCall (wrote (swap .left)) K M) → Accepted N (here .lent) → Accepted M (there .lent)
+    → (here : SolveCall (wrote (call .left)) K N) (there : SolveCall (wrote (swap .left)) K M) → Accepted N (here .lent)
+    → Accepted M (there .lent)
     → (code (here .left .answer) ≡ 11 → ⊥) → (code (there .left .answer) ≡ 11 → ⊥) → SameNumbers (here .left) (there .left)
 swapped-verdict one two K N M p call swap room-call room-swap here there room-here room-there =
     rw (
@@ -180,10 +188,12 @@ pub halves-win-alone : (one two : List ℕ) → Two one two → (K : ℕ) (F : P
     → Wins K (joinedTable one two) F → Wins K (stated one) (take (stated one .controllers) F) × Wins K (stated two) (drop (stated one .controllers) F)
 halves-win-alone = wins-alone
 
--- "Solving the parts and then the joined table held to the parts' winning positions gives the same verdict, winning list and controller as solving
+-- "Solving the parts and then the joined table held to the parts' winning positions gives the same verdict, winning list and controller as
+-- solving
 -- the joined table afresh, wherever neither was refused as full."
 pub parts-afresh : (one two : List ℕ) (K N M : ℕ) → Two one two → (whole : JoinCall one two) → AcceptedJoin (whole .lent)
-    → (byParts : PartsCall one two K N) (afresh : SolveCall (wrote (whole .left)) K M) → Accepted N (byParts .lent) → Accepted M (afresh .lent)
+    → (byParts : PartsCall one two K N) (afresh : SolveCall (wrote (whole .left)) K M) → Accepted N (byParts .lent)
+    → Accepted M (afresh .lent)
     → (code (byParts .left .answer) ≡ 11 → ⊥) → (code (afresh .left .answer) ≡ 11 → ⊥)
     → SameResult (joinedTable one two) (byParts .left) (afresh .left)
 parts-afresh one two K N M p whole room byParts afresh room-here room-there =

@@ -14,7 +14,7 @@ use lib.Dec.{eqb, ltb, lit<}
 use borrow.Author.Tests.{ltb-true, lt-ltb, ne-eqb}
 use Rattle.meaning.specs.declared.Refusal.the-variants.{Full, Nothing}
 use Rattle.meaning.specs.Lists.{largest}
-use Rattle.meaning.specs.Records.{recordsOf, Record}
+use Rattle.meaning.specs.Records.{recordsOf}
 use Rattle.meaning.specs.Table.{Table, tableOf, stated}
 use Rattle.meaning.specs.Rounds.{Set, allSafe, setA, setB, setW, maximalMembers, rounds, widthOfRound, full, Crowded, Overfull, in-W}
 use Rattle.meaning.specs.Rounds.{in-A, in-B, FirstSet}

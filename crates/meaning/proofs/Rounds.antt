@@ -9,7 +9,7 @@ use native.Mathlib.Omega.{arith}
 use lib.ListN.{length, length-replicate}
 use Rattle.meaning.specs.Lists.{each, some, keep}
 use Rattle.meaning.specs.Table.{Table, onOutput, onInput}
-use Rattle.meaning.specs.Counting.{Position, nowhere, forward, below}
+use Rattle.meaning.specs.Counting.{Position, nowhere, forward}
 use Rattle.meaning.specs.Rounds.{Set, Down, Within, FirstSet, allSafe, setA, setB, setW, positions, equal, rounds, winning}
 use Rattle.meaning.proofs.Tests.{both, both-left, both-right, clash, same-test, agreed, agrees, each-at, each-of, some-at, some-of}
 use Rattle.meaning.proofs.Tests.{first-holds, first-before}

@@ -7,14 +7,13 @@ use mathlib.Core.List.{List, [], _∷_, map, flatMap, List·Memᴰ, List·Memᴰ
 use Prim.Native.Nat.{ℕ, suc, _%_, _<_, suc-le-suc}
 use native.Mathlib.Omega.{arith}
 use lib.ListN.{length, getD}
-use lib.Dec.{eqb, ltb, lit<}
+use lib.Dec.{eqb, ltb}
 use borrow.Author.Tests.{eqb-true, ltb-true, not-false}
 use Rattle.meaning.specs.Lists.{Ascending, none, more, before}
 use Rattle.meaning.specs.Records.{Record, recordsOf, bytesOf, at, ascends}
 use Rattle.meaning.specs.Checks.{Passes, wrongLength, tableChecks}
 use Rattle.meaning.proofs.Tests.{ordered-cases, neither-left, neither-right}
 use Rattle.meaning.proofs.Ascending.{before-first, before-rest, before-trans, ascending-equal}
-use Rattle.meaning.proofs.Records.{record-same}
 use Rattle.meaning.proofs.Sound.{passes-length, passes-sound}
 
 -- a record's four bytes, and the record that they state

@@ -3,10 +3,9 @@
 use mathlib.Core.Path.{_≡_, ap, _∙_}
 use mathlib.Core.Bool.{true}
 use mathlib.Core.List.{List, List·Memᴰ}
-use Prim.Native.Nat.{ℕ, _/_, _%_, _≤_, _<_}
+use Prim.Native.Nat.{ℕ, _≤_, _<_}
 use native.Mathlib.Omega.{arith}
 use lib.ListN.{length, List·getD-eq-default}
-use lib.Dec.{eqb}
 use Rattle.meaning.specs.Records.{Record, recordsOf, at, blank, ofKind, controller, world, output, input}
 use Rattle.meaning.specs.Table.{tableOf, markOf, startsOf, edgeOf, startIn, markIn}
 use Rattle.meaning.specs.Checks.{tableChecks, Passes}

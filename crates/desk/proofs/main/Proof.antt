@@ -46,11 +46,11 @@ code-requires c κs = search needs
 array-share-prefix-table-2 : tie.Need-array-share-prefix-table-2 Inv-loop μ-loop
 array-share-prefix-table-2 c = search needs
 
-slice-aggregate-read : tie.Need-slice-aggregate-read Inv-loop μ-loop
-slice-aggregate-read c = search needs
+slice-aggregate-letters : tie.Need-slice-aggregate-letters Inv-loop μ-loop
+slice-aggregate-letters c = search needs
 
-read-requires : tie.Need-read-requires Inv-loop μ-loop
-read-requires c κs = search needs
+letters-requires : tie.Need-letters-requires Inv-loop μ-loop
+letters-requires c κs = search needs
 
 slice-aggregate-fours : tie.Need-slice-aggregate-fours Inv-loop μ-loop
 slice-aggregate-fours c = search needs
@@ -93,8 +93,8 @@ main-spec =
     print-answer-requires
     code-requires
     array-share-prefix-table-2
-    slice-aggregate-read
-    read-requires
+    slice-aggregate-letters
+    letters-requires
     slice-aggregate-fours
     rows-requires
     fours-requires

@@ -8,18 +8,15 @@ use native.Mathlib.Omega.{arith}
 use borrow.Author.Needs.{needs}
 use denote.Ref.{now}
 use Rattle.meaning.specs.Rounds.{allSafe}
-use Rattle.meaning.specs.Answers.{unsolved, solvedFrom, solve, staged}
-use Rattle.meaning.specs.Checks.{judge, room, tableChecks, stageChecks, Passes}
-use Rattle.meaning.proofs.Rounds.{allSafe-first}
+use Rattle.meaning.specs.Answers.{solve, staged}
+use Rattle.meaning.specs.Checks.{room, tableChecks, Passes}
 use Rattle.meaning.specs.Table.{stated, Table}
 use Rattle.meaning.specs.Written.{positionBytes}
 use Rattle.meaning.specs.Counting.{Position}
 use Rattle.table.specs.Packed.{tableIn}
 use Rattle.table.proofs.Judged.{passes-none-fails, reading-checked, reading-table}
 use Rattle.table.proofs.Good.{good-table}
-use Rattle.game.specs.Rounds.{Settles}
-use Rattle.game.proofs.Settled.{after-settled}
-use Rattle.game.proofs.InOrder.{room-within, passes-fit, settled-full, settled-playable, settled-roomy, settled-finished}
+use Rattle.game.proofs.InOrder.{passes-fit}
 use Rattle.game.proofs.Solved.{solve-bound, solve-room, solve-table, solve-stage}
 use Rattle.game.proofs.solve.Statement.{statement}
 use Rattle.game.proofs.solve.Tie as tie

@@ -9,9 +9,8 @@ use borrow.Author.Tests.{eq-eqb, ne-eqb}
 use denote.Ref.{now}
 use lib.ListN.{length, drop, length-append}
 use Rattle.io.proofs.Counting.{counts}
-use Rattle.meaning.specs.declared.Answer.{Answer}
 use Rattle.meaning.specs.declared.Verdict.the-variants.{Realizable}
-use Rattle.meaning.specs.Answers.{codeOf, join}
+use Rattle.meaning.specs.Answers.{codeOf, join, Joined}
 use Rattle.meaning.proofs.Answers.{join-judged}
 use Rattle.meaning.specs.Join.{joinedBytes}
 use Rattle.meaning.proofs.Codes.{code-realizable}
@@ -31,7 +30,8 @@ ends-within one two out e =
 code-given : (c : tie.After-code) →
     let start = c .before .before .before .before .before .before .before .before .before .before .before in
     codeOf (join (now (start .args .first)) (now (start .args .second)) (now (start .args .out)) .answer .verdict) ≡ c .code .result
-code-given c = ap (λ (a : Answer). codeOf (a .verdict)) (sym (c .before .before .before .before .before .join .ensures .0)) ∙ sym (c .code .ensures)
+code-given c =
+    ap (λ (j : Joined). codeOf (j .answer .verdict)) (sym (c .before .before .before .before .before .join .ensures)) ∙ sym (c .code .ensures)
 
 join-requires : tie.Need-join-requires
 join-requires c κs = search needs
@@ -49,7 +49,7 @@ returns : tie.Need-returns
 returns c =
     let call = c .before .before .before .before .before .before in
     let refused = code-given (c .before) in
-    (call .join .ensures .1, (rw (ne-eqb _ 0 (λ e. c .if1 .taken (sym refused ∙ e))) refl, (omega arith, refl)))
+    (ap (λ (j : Joined). j .outAfter) (call .join .ensures), (rw (ne-eqb _ 0 (λ e. c .if1 .taken (sym refused ∙ e))) refl, (omega arith, refl)))
 
 same-length-2 : tie.Need-same-length-2
 same-length-2 c = search needs
@@ -58,8 +58,9 @@ returns-2 : tie.Need-returns-2
 returns-2 c =
     let call = c .before .before .before .before .before .before in
     let granted = code-given (c .before) ∙ c .if1 .left in
-    let place = ap (λ (a : Answer). a .place) (call .join .ensures .0) in
-    (call .join .ensures .1, (rw (eq-eqb _ 0 granted) place, rw (place, call .join .ensures .1) (counts _ _ (ends-within _ _ _ granted))))
+    let place = ap (λ (j : Joined). j .answer .place) (call .join .ensures) in
+    let bytes = ap (λ (j : Joined). j .outAfter) (call .join .ensures) in
+    (bytes, (rw (eq-eqb _ 0 granted) place, rw (place, bytes) (counts _ _ (ends-within _ _ _ granted))))
 
 pub joined-spec : {M : Type 1} → statement M
 joined-spec =

@@ -1,11 +1,10 @@
 -- `stage`: the rounds settle from the set that the first list covers. Where they are full, so is the stage; else finishing the list that they left is
 -- what the stage comes to. Assumes nothing.
-use mathlib.Core.Path.{_≡_, sym, _∙_}
+use mathlib.Core.Path.{_∙_}
 use native.Mathlib.Omega.{arith}
 use borrow.Author.Needs.{needs}
 use denote.Ref.{now}
 use Rattle.meaning.specs.Answers.{staged}
-use Rattle.table.specs.Packed.{tableIn}
 use Rattle.game.proofs.Settled.{after-settled}
 use Rattle.game.proofs.InOrder.{room-within, settled-full, settled-playable, settled-roomy, settled-finished}
 use Rattle.game.proofs.stage.stage.Statement.{statement}

@@ -1,7 +1,6 @@
 -- `last`: what is read back of the joined bytes is the joined table, and the list of pairs is a first list of it, which covers them. So the stage from
 -- that list is the last. Assumes nothing.
 use mathlib.Core.Path.{_≡_, sym, ap, _∙_}
-use mathlib.Core.Bool.{true}
 use mathlib.Core.List.{List}
 use Prim.Native.Nat.{ℕ}
 use native.Mathlib.Omega.{arith}
@@ -9,23 +8,15 @@ use borrow.Author.Needs.{needs}
 use denote.Ref.{now}
 use lib.ListN.{length, take}
 use lib.Seq.{take-append-seam}
-use Rattle.meaning.specs.declared.Refusal.the-variants.{Full}
 use Rattle.meaning.specs.Records.{recordsOf}
-use Rattle.meaning.specs.Table.{tableOf, stated}
-use Rattle.meaning.specs.Join.{pairs, joinedTable}
-use Rattle.meaning.specs.Answers.{unsolved}
-use Rattle.meaning.specs.Checks.{check, pairChecks, Passes}
+use Rattle.meaning.specs.Table.{tableOf}
+use Rattle.meaning.specs.Join.{joinedTable}
+use Rattle.meaning.specs.Checks.{pairChecks, Passes}
 use Rattle.table.specs.Packed.{tableIn, packed}
 use Rattle.sets.specs.Members.{members}
-use Rattle.game.specs.Rounds.{Settles}
-use Rattle.game.proofs.Settled.{after-settled}
-use Rattle.game.proofs.Listed.{listed-roomy}
 use Rattle.meaning.specs.Join.{joinedBytes}
-use Rattle.join.specs.Parts.{lastStage}
 use Rattle.join.proofs.Paired.{none-fails, joinable}
-use Rattle.game.proofs.InOrder.{room-within, stage-full, settled-finished}
-use Rattle.join.proofs.Settles.{refusal-leaves}
-use Rattle.join.proofs.Stages.{joined-read, joined-small, pairs-begin, pairs-covered, pairs-list, joined-fit}
+use Rattle.join.proofs.Stages.{joined-read, pairs-covered, pairs-list, joined-fit}
 use Rattle.join.proofs.stage.last.Statement.{statement}
 use Rattle.join.proofs.stage.last.Tie as tie
 

@@ -3,7 +3,7 @@
 use mathlib.Core.Path.{_≡_, sym, ap, _∙_, ap₂}
 use mathlib.Core.List.{List}
 use mathlib.Core.Logic.{⊎-elim}
-use Prim.Native.Nat.{ℕ, _≤_, _+_, _-_, _/_, _%_}
+use Prim.Native.Nat.{ℕ, _≤_, _+_, _-_, _/_}
 use native.Mathlib.Omega.{arith}
 use borrow.Author.Needs.{needs}
 use denote.Ref.{now}
