@@ -35,9 +35,8 @@ use Rattle.meaning.proofs.Afresh.{parts-agree}
 use Rattle.meaning.proofs.Alike.{SameNumbers, swap-answers, swap-wins, self-answers, self-wins-alike}
 
 -- ── 1 and 2 ──
--- "Every table, patience count and room gets an answer.": each of these holds for every table, K, room and buffers, and the kit proves
--- that the
--- code ends
+-- "Every table, patience count and room gets an answer.": each of these holds for every table, K, room and buffers, and the kit proves that
+-- the code ends
 module _ (bytes : List ℕ) (K N : ℕ) (call : SolveCall bytes K N) where
   pub solve-refuses : Refuses (solveChecks bytes K N (call .lent .winnersBefore) (call .lent .controllerBefore)) (call .left .answer)
       ((call .left .winnersAfter ≡ call .lent .winnersBefore) × (call .left .controllerAfter ≡ call .lent .controllerBefore))
@@ -85,8 +84,7 @@ join-refuses one two call =
 
 -- ── 3 ──
 -- "Take good tables with the same letters, one K, room that reason 3 accepts, and a joined size within limits.": `Two` and `Three` tables,
--- and
--- `Accepted` room, each call with its own buffers
+-- and `Accepted` room, each call with its own buffers
 -- the join of good tables is a good table
 pub join-good : (one two : List ℕ) → Two one two → (call : JoinCall one two) → AcceptedJoin (call .lent)
     → (code (call .left .answer) ≡ 0) × ((which : ℕ) → Passes (tableChecks which (wrote (call .left))))
@@ -189,8 +187,7 @@ pub halves-win-alone : (one two : List ℕ) → Two one two → (K : ℕ) (F : P
 halves-win-alone = wins-alone
 
 -- "Solving the parts and then the joined table held to the parts' winning positions gives the same verdict, winning list and controller as
--- solving
--- the joined table afresh, wherever neither was refused as full."
+-- solving the joined table afresh, wherever neither was refused as full."
 pub parts-afresh : (one two : List ℕ) (K N M : ℕ) → Two one two → (whole : JoinCall one two) → AcceptedJoin (whole .lent)
     → (byParts : PartsCall one two K N) (afresh : SolveCall (wrote (whole .left)) K M) → Accepted N (byParts .lent)
     → Accepted M (afresh .lent)
