@@ -11,7 +11,8 @@ use Rattle.game.proofs.solve as fn
 use Rattle.game.proofs.solve.Kinds as kinds
 use Rattle.game.proofs.solve.Reads as reads
 
-pub solve-learnt : (κs : Lfts 3) (args : ArgsD fn.signature κs) (result : ResD fn.signature κs) (after : AtExit (endedOf 3 kinds.ps kinds.r) κs)
+pub solve-learnt : (κs : Lfts 3) (args : ArgsD fn.signature κs) (result : ResD fn.signature κs)
+    (after : AtExit (endedOf 3 kinds.ps kinds.r) κs)
     → reads.Learnt κs args result after → SolveCall (now (args .0)) (args .1 .0) (args .1 .1 .0)
 solve-learnt κs args result after learnt =
     record {

@@ -183,7 +183,8 @@ first-set-exactly = pairs-win-alone
 
 -- and a position that wins in the joined table has halves that win alone
 pub halves-win-alone : (one two : List ℕ) → Two one two → (K : ℕ) (F : Position) → length F ≡ joinedTable one two .controllers
-    → Wins K (joinedTable one two) F → Wins K (stated one) (take (stated one .controllers) F) × Wins K (stated two) (drop (stated one .controllers) F)
+    → Wins K (joinedTable one two) F → Wins K (stated one) (take (stated one .controllers) F)
+    × Wins K (stated two) (drop (stated one .controllers) F)
 halves-win-alone = wins-alone
 
 -- "Solving the parts and then the joined table held to the parts' winning positions gives the same verdict, winning list and controller as
