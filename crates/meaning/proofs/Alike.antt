@@ -4,7 +4,7 @@
 use mathlib.Core.Path.{_≡_, refl, sym, ap, _∙_}
 use mathlib.Core.Logic.{_↔_}
 use mathlib.Core.Bool.{Bool, true, false, cond}
-use mathlib.Core.List.{List, _++_}
+use mathlib.Core.List.{List, [], _∷_, _++_}
 use Prim.Native.Nat.{ℕ}
 use native.Mathlib.Omega.{arith}
 use lib.ListN.{length, length-append}
@@ -17,9 +17,9 @@ use Rattle.meaning.specs.Counting.{Position, startPosition}
 use Rattle.meaning.specs.Rounds.{Set, allSafe, winning, FirstSet}
 use Rattle.meaning.specs.Written.{winners, startState}
 use Rattle.meaning.specs.Join.{joinedTable, joinedBytes}
-use Rattle.meaning.specs.Checks.{Passes, bound, room, pairChecks}
+use Rattle.meaning.specs.Checks.{Passes, bound, room, pairChecks, Check, stageChecks, judge}
 use Rattle.meaning.specs.Answers.{codeOf, refused, Solved, unsolved, answered, solvedFrom, solve}
-use Rattle.meaning.specs.Calls.{code}
+use Rattle.meaning.specs.Calls.{code, SameNumbers}
 use Rattle.meaning.specs.Play.{Wins}
 use Rattle.meaning.proofs.Tests.{same-test}
 use Rattle.meaning.proofs.Rounds.{allSafe-first}
@@ -29,25 +29,10 @@ use Rattle.meaning.proofs.Sound.{sound-good, passes-first, passes-paire
 use Rattle.meaning.proofs.Follows.{winningSet}
 use Rattle.meaning.proofs.Union.{Union, controllers-sum, start-append}
 use Rattle.meaning.proofs.Swap.{swap-rounds, swap-winning, self-winning}
-use Rattle.meaning.proofs.Widths.{swap-winners}
+use Rattle.meaning.proofs.Widths.{swap-winners, swap-full}
 use Rattle.meaning.proofs.Join.{joined-union, joined-good, pair-swapped}
-use Rattle.meaning.proofs.NotFull.{bounded, solve-unless-full, joined-unless-full}
-
--- the code, the rounds and the number of winners of two outcomes are the same
-pub record SameNumbers (s o : Solved) : Type 0 where
-  pub same-code : code (s .answer) ≡ code (o .answer)
-  pub same-rounds : s .answer .rounds ≡ o .answer .rounds
-  pub same-number : s .answer .winners ≡ o .answer .winners
-
--- 2 refuses alike: what two outcomes have in common, they have after it, if all refusals by 2 have it
-bounded-alike : {A : Type 0} (part : Solved → A) (K : ℕ) (win con win′ con′ : List ℕ)
-    → part (unsolved win con (bound K)) ≡ part (unsolved win′ con′ (bound K)) → (s o : Solved) → part s ≡ part o
-    → part (bounded K win con s) ≡ part (bounded K win′ con′ o)
-bounded-alike part K win con win′ con′ refusal s o e = go (bound K .failed)
-  where
-    go : (b : Bool) → part (cond b (unsolved win con (bound K)) s) ≡ part (cond b (unsolved win′ con′ (bound K)) o)
-    go true = refusal
-    go false = e
+use Rattle.meaning.proofs.NotFull.{solve-unless-full, joined-unless-full, joined-staged}
+use Rattle.meaning.proofs.Checks.{judge-alike}
 
 -- the code says whether the start position is in the winning set
 start-code : (K : ℕ) (t : Table) (X : Set) (win con : List ℕ) → FirstSet K t X
@@ -87,16 +72,29 @@ module _ (K : ℕ) (t u whole other : Table) (un : Union t u whole) (on : Union 
       rw (start-append t u whole un K, start-append u t other on K)
       (sym (swap-winning K t u whole other un on (startPosition K t) (startPosition K u) (start-length K t) (start-length K u)))
 
-  swap-numbers : (win con win′ con′ : List ℕ) → SameNumbers (bounded K win con (granted K whole win con)) (bounded K win′ con′ (granted K other win′ con′))
+  -- after any checks that are the same of both
+  swap-judged : (cs : List Check) (win con win′ con′ : List ℕ)
+      → SameNumbers (judge cs (unsolved win con) (granted K whole win con)) (judge cs (unsolved win′ con′) (granted K other win′ con′))
   unfolding solvedFrom answered unsolved refused
-  swap-numbers win con win′ con′ =
+  swap-judged cs win con win′ con′ =
       let s = granted K whole win con in
       let o = granted K other win′ con′ in
+      let refuse = unsolved win con in
+      let refuse′ = unsolved win′ con′ in
       record {
-        same-code = bounded-alike (λ s. code (s .answer)) K win con win′ con′ refl s o (granted-code K whole other win con win′ con′ swap-start);
-        same-rounds = bounded-alike (λ s. s .answer .rounds) K win con win′ con′ refl s o (sym (swap-rounds K t u whole other un on));
-        same-number = bounded-alike (λ s. s .answer .winners) K win con win′ con′ refl s o (swap-winners K t u whole other un on);
+        same-code =
+            judge-alike (λ (s : Solved). code (s .answer)) cs refuse refuse′ s o (λ c. refl)
+            (granted-code K whole other win con win′ con′ swap-start);
+        same-rounds =
+            judge-alike (λ (s : Solved). s .answer .rounds) cs refuse refuse′ s o (λ c. refl) (sym (swap-rounds K t u whole other un on));
+        same-number =
+            judge-alike (λ (s : Solved). s .answer .winners) cs refuse refuse′ s o (λ c. refl) (swap-winners K t u whole other un on);
       }
+
+  -- 11 and 12 are
+  swap-checks : (N : ℕ) → stageChecks 0 K N whole (allSafe K (whole .controllers)) ≡ stageChecks 0 K N other (allSafe K (other .controllers))
+  unfolding stageChecks
+  swap-checks N = rw (swap-full K t u whole other un on N, swap-winners K t u whole other un on)
 
 pub swap-answers : (one two : List ℕ) (K N M : ℕ) (win con win′ con′ : List ℕ) → Passes (pairChecks one two)
     → room N win con .failed ≡ false → room M win′ con′ .failed ≡ false
@@ -105,8 +103,27 @@ pub swap-answers : (one two : List ℕ) (K N M : ℕ) (win con win′ con′ : L
 swap-answers one two K N M win con win′ con′ p room-here room-there spare spare′ =
     let q = pair-swapped one two p in
     rw (joined-unless-full one two K N win con p room-here spare, joined-unless-full two one K M win′ con′ q room-there spare′)
-    (swap-numbers K (stated one) (stated two) (joinedTable one two) (joinedTable two one) (joined-union one two p) (joined-union two one q)
-    win con win′ con′)
+    (swap-judged K (stated one) (stated two) (joinedTable one two) (joinedTable two one) (joined-union one two p) (joined-union two one q)
+    (bound K ∷ []) win con win′ con′)
+
+-- with equal room, FULL too
+pub swap-alike : (one two : List ℕ) (K N : ℕ) (win con win′ con′ : List ℕ) → Passes (pairChecks one two)
+    → room N win con .failed ≡ false → room N win′ con′ .failed ≡ false
+    → SameNumbers (solve (joinedBytes one two) K N win con) (solve (joinedBytes two one) K N win′ con′)
+swap-alike one two K N win con win′ con′ p room-here room-there =
+    let q = pair-swapped one two p in
+    let t = stated one in
+    let u = stated two in
+    let whole = joinedTable one two in
+    let other = joinedTable two one in
+    let un = joined-union one two p in
+    let on = joined-union two one q in
+    rw (
+      joined-staged one two K N win con p room-here,
+      joined-staged two one K N win′ con′ q room-there,
+      swap-checks K t u whole other un on N,
+    )
+    (swap-judged K t u whole other un on (bound K ∷ stageChecks 0 K N other (allSafe K (other .controllers))) win con win′ con′)
 
 pub swap-wins : (one two : List ℕ) → Passes (pairChecks one two) → (K : ℕ) (F G : Position) → length F ≡ stated one .controllers
     → length G ≡ stated two .controllers → Wins K (joinedTable one two) (F ++ G) → Wins K (joinedTable two one) (G ++ F)
@@ -136,8 +153,8 @@ self-answers one K N M win con win′ con′ p room-here room-there spare spare�
     let start : winningSet K whole (startPosition K whole) ≡ winningSet K t (startPosition K t) =
     rw (start-append t t whole un K) (self-winning K t whole un (good .some-output) (startPosition K t) (start-length K t)) in
     rw (joined-unless-full one one K N win con p room-here spare, solve-unless-full one K M win′ con′ (passes-first one one p 0) room-there spare′)
-    (bounded-alike (λ s. code (s .answer)) K win con win′ con′ refl (granted K whole win con) (granted K t win′ con′)
-    (granted-code K whole t win con win′ con′ start))
+    (judge-alike (λ (s : Solved). code (s .answer)) (bound K ∷ []) (unsolved win con) (unsolved win′ con′) (granted K whole win con)
+    (granted K t win′ con′) (λ c. refl) (granted-code K whole t win con win′ con′ start))
 
 pub self-wins-alike : (one : List ℕ) → Passes (pairChecks one one) → (K : ℕ) (F : Position) → length F ≡ stated one .controllers
     → Wins K (joinedTable one one) (F ++ F) ↔ Wins K (stated one) F

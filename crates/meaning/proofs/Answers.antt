@@ -113,9 +113,6 @@ join-judged one two out =
     judged (λ s. s .answer .verdict) (joinChecks one two out) (unjoined out)
     (joinedInto (joinedBytes one two) out) (λ c. refl) (λ r. cond-granted true 0 r)
 
-pub join-refusal-leaves : (one two out : List ℕ) (r : Refusal) → join one two out .answer .verdict ≡ Refused r → join one two out .outAfter ≡ out
-join-refusal-leaves one two out r e = refusal-leaves (join-judged one two out) (λ s. s .outAfter) out (λ c. refl) r e
-
 pub join-realizable-exactly : (one two out : List ℕ) → (join one two out .answer .verdict ≡ Realizable 0) ↔ Passes (joinChecks one two out)
 join-realizable-exactly one two out =
     let exact = join-judged one two out .granted-exactly (Realizable 0) (λ r. cond-granted true 0 r) in

@@ -2,7 +2,7 @@
 -- exactly under its "when" and after those before it, and what no refusal changes is left by every refusal. By induction on the list.
 use mathlib.Core.Path.{_≡_, refl, sym, ap, _∙_}
 use mathlib.Core.Logic.{_↔_, _⊎_, inl, inr, ⊎-elim}
-use mathlib.Core.Bool.{true, false, cond, not}
+use mathlib.Core.Bool.{Bool, true, false, cond, not}
 use mathlib.Core.List.{List, [], _∷_, _++_, List·Memᴰ, List·Memᴰ·append-cases, Memᴰ·append-left, Memᴰ·append-right, Memᴰ·cast}
 use Prim.Native.Nat.{ℕ, zero, suc, _<_, zero-le, suc-le-suc}
 use native.Mathlib.Nat.{le-of-suc-le-suc, not-suc-le-zero}
@@ -86,12 +86,18 @@ pub judge-append : {A : Type 0} (cs ds : List Check) (refuse : Check → A) (gra
 judge-append [] ds refuse grant = refl
 judge-append {A} (c ∷ cs) ds refuse grant = ap (λ (r : A). cond (c .failed) (refuse c) r) (judge-append cs ds refuse grant)
 
--- two outcomes that agree in a part still agree in it after the same checks
-pub judge-same : {A B : Type 0} (part : A → B) (cs : List Check) (refuse : Check → A) (grant other : A) → part grant ≡ part other
-    → part (judge cs refuse grant) ≡ part (judge cs refuse other)
-judge-same part [] refuse grant other e = e
-judge-same part (c ∷ cs) refuse grant other e =
-    ⊎-elim (λ (f : c .failed ≡ true). rw f) (λ f. rw f (judge-same part cs refuse grant other e)) (decided (c .failed))
+-- two outcomes that agree in a part, and whose refusals do, still agree in it after the same checks
+pub judge-alike : {A B : Type 0} (part : A → B) (cs : List Check) (refuse other-refuse : Check → A) (grant other : A)
+    → ((c : Check) → part (refuse c) ≡ part (other-refuse c)) → part grant ≡ part other
+    → part (judge cs refuse grant) ≡ part (judge cs other-refuse other)
+judge-alike part [] refuse other-refuse grant other refusals e = e
+judge-alike part (c ∷ cs) refuse other-refuse grant other refusals e =
+    go (c .failed) (judge-alike part cs refuse other-refuse grant other refusals e)
+  where
+    go : (b : Bool) → part (judge cs refuse grant) ≡ part (judge cs other-refuse other)
+        → part (cond b (refuse c) (judge cs refuse grant)) ≡ part (cond b (other-refuse c) (judge cs other-refuse other))
+    go true rest = refusals c
+    go false rest = rest
 
 -- Demand 1 of any call, of its checks, what it comes to where one fails and where none does, and its outcome
 pub record Judged {A : Type 0} (verdict : A → Verdict) (cs : List Check) (refuse : Check → A) (grant out : A) : Type 0 where

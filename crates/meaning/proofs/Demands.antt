@@ -4,7 +4,7 @@
 use mathlib.Core.Path.{_≡_, refl, sym, ap, _∙_}
 use mathlib.Core.Logic.{_↔_, Iff·trans, Iff·symm}
 use mathlib.Core.Bool.{true, false}
-use mathlib.Core.List.{map, List, _++_, List·Memᴰ}
+use mathlib.Core.List.{map, List, _++_, List·Memᴰ, []}
 use Prim.Native.Nat.{ℕ, _<_}
 use lib.ListN.{length, take, drop}
 use Rattle.meaning.specs.declared.Refusal.the-variants.{Full}
@@ -14,10 +14,10 @@ use Rattle.meaning.specs.Counting.{Position}
 use Rattle.meaning.specs.Rounds.{allSafe}
 use Rattle.meaning.specs.Join.{joined, joinedTable, joinedBytes, pairs}
 use Rattle.meaning.specs.Checks.{Passes, bound, tableChecks, solveChecks, joinChecks, partsChecks}
-use Rattle.meaning.specs.Answers.{refused, Joined}
+use Rattle.meaning.specs.Answers.{refused, Joined, joinedInto}
 use Rattle.meaning.specs.Play.{Wins}
 use Rattle.meaning.specs.Calls.{SolveCall, PartsCall, JoinCall, code, Unrefused, Accepted, AcceptedJoin}
-use Rattle.meaning.specs.Calls.{SameResult, wrote, Two, Three, controllerAcross, worldAcross, recordAcross}
+use Rattle.meaning.specs.Calls.{SameResult, SameNumbers, wrote, Two, Three, controllerAcross, worldAcross, recordAcross}
 use Rattle.meaning.specs.Demands.{Refuses, Solves, TableFull, PartsFull}
 use Rattle.meaning.proofs.Records.{records-back}
 use Rattle.meaning.proofs.Codes.{code-refused}
@@ -32,7 +32,7 @@ use Rattle.meaning.proofs.Join.{pair-after, pairs-win-alone, wins-alone
 use Rattle.meaning.proofs.Stages.{stage-solves, solve-stage, parts-stage, stage-refuses}
 use Rattle.meaning.proofs.Full.{solve-full, parts-full}
 use Rattle.meaning.proofs.Afresh.{parts-agree}
-use Rattle.meaning.proofs.Alike.{SameNumbers, swap-answers, swap-wins, self-answers, self-wins-alike}
+use Rattle.meaning.proofs.Alike.{swap-answers, swap-alike, swap-wins, self-answers, self-wins-alike}
 
 -- ── 1 and 2 ──
 -- "Every table, patience count and room gets an answer.": each of these holds for every table, K, room and buffers, and the kit proves that
@@ -99,24 +99,29 @@ wrote-joined : (one two : List ℕ) → Two one two → (call : JoinCall one two
     → wrote (call .left) ≡ joinedBytes one two
 wrote-joined one two p call room = told call (λ j. wrote j ≡ joinedBytes one two) (join-makes one two (call .lent) room p)
 
--- "Joining may be grouped anyhow with equal bytes": neither is refused, and the bytes are the same
+-- what it answered
+answer-joined : (one two : List ℕ) → Two one two → (call : JoinCall one two) → AcceptedJoin (call .lent)
+    → call .left .answer ≡ joinedInto (joinedBytes one two) [] .answer
+answer-joined one two p call room = ap (λ (j : Joined). j .answer) (call .promise ∙ join-grants one two (call .lent) room p)
+
+-- "Joining may be grouped anyhow with equal bytes": neither is refused, and the answers and the bytes are the same
 pub join-grouped : (a b c : List ℕ) → Three a b c → (ab : JoinCall a b) (bc : JoinCall b c) → AcceptedJoin (ab .lent)
     → AcceptedJoin (bc .lent)
     → (then : JoinCall (wrote (ab .left)) c) (after : JoinCall a (wrote (bc .left))) → AcceptedJoin (then .lent)
     → AcceptedJoin (after .lent)
-    → (code (then .left .answer) ≡ 0) × (code (after .left .answer) ≡ 0) × (wrote (then .left) ≡ wrote (after .left))
+    → (code (then .left .answer) ≡ 0) × (then .left .answer ≡ after .left .answer) × (wrote (then .left) ≡ wrote (after .left))
 join-grouped a b c three ab bc room-ab room-bc then after room-then room-after =
     let first = wrote-joined a b (three .first-two) ab room-ab in
     let last = wrote-joined b c (three .last-two) bc room-bc in
     let left = rw (← first) at (pair-then a b c (three .first-two) (three .last-two) (three .controllers) (three .worlds)) in
-    let right = rw (← last) at (pair-after a b c (three .first-two) (three .last-two) (three .controllers) (three .worlds)) in (
+    let right = rw (← last) at (pair-after a b c (three .first-two) (three .last-two) (three .controllers) (three .worlds)) in
+    let same : joinedBytes (wrote (ab .left)) c ≡ joinedBytes a (wrote (bc .left)) =
+    ap (λ (l : List ℕ). joinedBytes l c) first ∙ bytes-grouped a b c ∙ sym (ap (joinedBytes a) last) in (
       join-good (wrote (ab .left)) c left then room-then .0,
-      join-good a (wrote (bc .left)) right after room-after .0,
-      wrote-joined (wrote (ab .left)) c left then room-then
-          ∙ ap (λ (l : List ℕ). joinedBytes l c) first
-          ∙ bytes-grouped a b c
-          ∙ sym (ap (joinedBytes a) last)
-          ∙ sym (wrote-joined a (wrote (bc .left)) right after room-after),
+      answer-joined (wrote (ab .left)) c left then room-then
+          ∙ ap (λ (l : List ℕ). joinedInto l [] .answer) same
+          ∙ sym (answer-joined a (wrote (bc .left)) right after room-after),
+      wrote-joined (wrote (ab .left)) c left then room-then ∙ same ∙ sym (wrote-joined a (wrote (bc .left)) right after room-after),
     )
 
 -- "and swapped with only the states renumbered": the swapped join has exactly the records of the other, so renumbered,
@@ -173,6 +178,21 @@ swapped-verdict one two K N M p call swap room-call room-swap here there room-he
       wrote-joined two one (pair-swapped one two p) swap room-swap,
     )
     (swap-answers one two K N M (here .lent .winnersBefore) (here .lent .controllerBefore) (there .lent .winnersBefore)
+    (there .lent .controllerBefore) p room-here room-there)
+
+-- and with equal room FULL is given for both or for neither
+pub swapped-alike : (one two : List ℕ) (K N : ℕ) → Two one two → (call : JoinCall one two) (swap : JoinCall two one)
+    → AcceptedJoin (call .lent) → AcceptedJoin (swap .lent)
+    → (here : SolveCall (wrote (call .left)) K N) (there : SolveCall (wrote (swap .left)) K N) → Accepted N (here .lent)
+    → Accepted N (there .lent) → SameNumbers (here .left) (there .left)
+swapped-alike one two K N p call swap room-call room-swap here there room-here room-there =
+    rw (
+      here .promise,
+      there .promise,
+      wrote-joined one two p call room-call,
+      wrote-joined two one (pair-swapped one two p) swap room-swap,
+    )
+    (swap-alike one two K N (here .lent .winnersBefore) (here .lent .controllerBefore) (there .lent .winnersBefore)
     (there .lent .controllerBefore) p room-here room-there)
 
 -- By parts over winning as in 2: a pair is in the first set exactly if its halves win alone,

@@ -42,15 +42,21 @@ unless-full (c ∷ cs) rest win con grant only spare =
 abbrev pub bounded : ℕ → List ℕ → List ℕ → Solved → Solved
 bounded K win con grant = judge (bound K ∷ []) (unsolved win con) grant
 
--- after 2 and 3, checks that pass, and those that may give FULL
-call-unless-full : (K N : ℕ) (win con : List ℕ) (cs rest : List Check) (grant : Solved) {P : Type 0} → room N win con .failed ≡ false → Passes cs
-    → FullOnly rest P → (code (judge (bound K ∷ room N win con ∷ (cs ++ rest)) (unsolved win con) grant .answer) ≡ numberOf Full → ⊥)
-    → judge (bound K ∷ room N win con ∷ (cs ++ rest)) (unsolved win con) grant ≡ bounded K win con grant
-call-unless-full K N win con cs rest grant accepted passes only spare =
-    let passed : judge (bound K ∷ room N win con ∷ (cs ++ rest)) (unsolved win con) grant ≡ judge (bound K ∷ rest) (unsolved win con) grant =
+-- after 2 and 3, checks that pass leave the rest
+call-passed : (K N : ℕ) (win con : List ℕ) (cs rest : List Check) (grant : Solved) → room N win con .failed ≡ false → Passes cs
+    → judge (bound K ∷ room N win con ∷ (cs ++ rest)) (unsolved win con) grant ≡ judge (bound K ∷ rest) (unsolved win con) grant
+call-passed K N win con cs rest grant accepted passes =
     rw accepted
     (ap (bounded K win con)
-    (judge-append cs rest (unsolved win con) grant ∙ judge-passes cs (unsolved win con) (judge rest (unsolved win con) grant) passes)) in
+    (judge-append cs rest (unsolved win con) grant ∙ judge-passes cs (unsolved win con) (judge rest (unsolved win con) grant) passes))
+
+-- and those that may give FULL alone leave nothing, where it was not given
+call-unless-full : (K N : ℕ) (win con : List ℕ) (cs rest : List Check) (grant : Solved) {P : Type 0} → room N win con .failed ≡ false
+    → Passes cs → FullOnly rest P
+    → (code (judge (bound K ∷ room N win con ∷ (cs ++ rest)) (unsolved win con) grant .answer) ≡ numberOf Full → ⊥)
+    → judge (bound K ∷ room N win con ∷ (cs ++ rest)) (unsolved win con) grant ≡ bounded K win con grant
+call-unless-full K N win con cs rest grant accepted passes only spare =
+    let passed = call-passed K N win con cs rest grant accepted passes in
     passed ∙ unless-full (bound K ∷ []) rest win con grant only (rw passed at spare)
 
 pub parts-unless-full : (one two : List ℕ) (K N : ℕ) (win con : List ℕ) → Passes (pairChecks one two) → room N win con .failed ≡ false
@@ -79,3 +85,22 @@ pub joined-unless-full : (one two : List ℕ) (K N : ℕ) (win con : List ℕ) �
 joined-unless-full one two K N win con p accepted spare =
     rw (records-back (joined (recordsOf one) (recordsOf two))) at
     (solve-unless-full (joinedBytes one two) K N win con (joined-passes one two p 0) accepted spare)
+
+-- and whether full or not, 2, 11 and 12 are left to judge
+solve-staged : (bytes : List ℕ) (K N : ℕ) (win con : List ℕ) → Passes (tableChecks 0 bytes) → room N win con .failed ≡ false
+    → solve bytes K N win con
+    ≡ judge (bound K ∷ stageChecks 0 K N (stated bytes) (allSafe K (stated bytes .controllers))) (unsolved win con)
+    (solvedFrom K (stated bytes) (allSafe K (stated bytes .controllers)) win con)
+unfolding solve solveChecks
+solve-staged bytes K N win con p accepted =
+    let t = stated bytes in
+    let X = allSafe K (t .controllers) in
+    call-passed K N win con (tableChecks 0 bytes) (stageChecks 0 K N t X) (solvedFrom K t X win con) accepted p
+
+pub joined-staged : (one two : List ℕ) (K N : ℕ) (win con : List ℕ) → Passes (pairChecks one two) → room N win con .failed ≡ false
+    → solve (joinedBytes one two) K N win con
+    ≡ judge (bound K ∷ stageChecks 0 K N (joinedTable one two) (allSafe K (joinedTable one two .controllers))) (unsolved win con)
+    (solvedFrom K (joinedTable one two) (allSafe K (joinedTable one two .controllers)) win con)
+joined-staged one two K N win con p accepted =
+    rw (records-back (joined (recordsOf one) (recordsOf two))) at
+    (solve-staged (joinedBytes one two) K N win con (joined-passes one two p 0) accepted)

@@ -3,7 +3,7 @@
 -- are, which pair stands at which place, and the eight counts of a pair.
 use mathlib.Core.Path.{_≡_, refl, sym, ap, ap₂, _∙_}
 use mathlib.Core.Logic.{_⊎_, inl, inr}
-use mathlib.Core.Bool.{Bool, true, false, cond, _&&_, true≢false}
+use mathlib.Core.Bool.{true, false, _&&_, true≢false}
 use mathlib.Core.List.{List, [], _∷_, _++_, map, flatMap, map-map, map-id}
 use mathlib.Core.List.{List·Memᴰ, List·Memᴰ·head, List·Memᴰ·tail, Memᴰ·map, Memᴰ·of-map}
 use Prim.Native.Nat.{ℕ, zero, suc, _+_, _*_, _-_, _≤_, _<_}
@@ -12,8 +12,6 @@ use native.Mathlib.Decide.{decLt}
 use native.Mathlib.Omega.{arith}
 use lib.ListN.{length, getD, take, drop, length-map, List·getD-append}
 use lib.Seq.{getD-append-add, take-at, drop-at}
-use lib.Dec.{ltb}
-use borrow.Author.Tests.{ltb-true, ltb-false}
 use Rattle.meaning.specs.Lists.{before, Ascending, none, more}
 use Rattle.meaning.specs.Table.{Table}
 use Rattle.meaning.specs.Counting.{Position, count, below}
@@ -23,7 +21,7 @@ use Rattle.meaning.specs.Join.{pairs}
 use Rattle.meaning.proofs.Tests.{both, both-left, both-right}
 use Rattle.meaning.proofs.Steps.{count-beyond, below-refl}
 use Rattle.meaning.proofs.Ascending.{before-cases, before-first, before-rest, append-ascends, cons-ascends}
-use Rattle.meaning.proofs.Lists.{flatMap-member, member-flatMap, flatMap-length, map-at}
+use Rattle.meaning.proofs.Lists.{flatMap-member, member-flatMap, map-at}
 use Rattle.meaning.proofs.Positions.{allSafe-length}
 use Rattle.meaning.proofs.Rounds.{allSafe-first, winning-safe}
 use Rattle.meaning.proofs.Maximal.{member-maximal, member-in, maximal-member, maximal-top, top-maximal, members-ascend, members-are}
@@ -170,12 +168,6 @@ pairs-members K t u =
     (winning-safe K t (allSafe K (t .controllers)) (allSafe-first K t)) (winning-safe K u (allSafe K (u .controllers)) (allSafe-first K u))
     (pairs-safe K t u) (λ F G e. rw (take-at F G (t .controllers) e, drop-at F G (t .controllers) e))
 
--- how many pairs there are
-pub beside-length : (Fs Gs : List Position) → length (beside Fs Gs) ≡ length Fs * length Gs
-unfolding beside
-beside-length Fs Gs =
-    flatMap-length (λ (F : Position). map (λ (G : Position). F ++ G) Gs) (length Gs) Fs (λ F. length-map Gs (λ (G : Position). F ++ G))
-
 -- the pairs of the i-th position of the first list stand from place i times the second list's length on
 pub beside-at : (Fs Gs : List Position) (i j : ℕ) → i < length Fs → j < length Gs
     → getD (beside Fs Gs) (i * length Gs + j) [] ≡ getD Fs i [] ++ getD Gs j []
@@ -205,10 +197,3 @@ module _ (n m : ℕ) (F G : Position) (sizeF : length F ≡ n) (sizeG : length G
           let place : q ≡ length F + (q - n) = omega arith in
           bytes-at (F ++ G) q l ∙ ap (count (F ++ G)) place ∙ getD-append-add F G (q - n) 0
       go (no l) = count-beyond (positionBytes (F ++ G)) q (omega (arith, position-bytes (F ++ G))) ∙ sym (count-beyond G (q - n) (omega arith))
-
-  pub bytes-beside : (q : ℕ) → count (positionBytes (F ++ G)) q ≡ cond (ltb q n) (count F q) (count G (q - n))
-  bytes-beside q = go (ltb q n) refl
-    where
-      go : (b : Bool) → ltb q n ≡ b → count (positionBytes (F ++ G)) q ≡ cond b (count F q) (count G (q - n))
-      go true e = bytes-first q (ltb-true q n e)
-      go false e = bytes-second q (ltb-false q n e)

@@ -3,7 +3,7 @@
 -- forward, K + 1 is reached and seen, and the step back floors at -1.
 use mathlib.Core.Path.{_≡_, refl}
 use mathlib.Core.Bool.{Bool, true, false, cond}
-use Prim.Native.Nat.{ℕ, zero, suc, _+_, _-_, _≤_, _<_, min}
+use Prim.Native.Nat.{ℕ, zero, suc, _+_, _-_, _<_, min}
 use native.Mathlib.Omega.{arith}
 use lib.IntN.{ℤ, pos, negsuc, subℕ, _-ℤ_}
 use lib.Dec.{ltb}
@@ -79,7 +79,3 @@ none-back mark = omega arith
 
 pub short-back : (mark c : ℕ) → c < mark → oneHigher (pos c) - mark ≡ oneHigher (negsuc 0)
 short-back mark c short = omega arith
-
--- and a count that has the mark to give is less by it
-pub exact-back : (mark c : ℕ) → mark ≤ c → oneHigher (pos c) - mark ≡ oneHigher (pos (c - mark))
-exact-back mark c enough = omega arith

@@ -64,9 +64,6 @@ below-trans F G H b c = below-of F H (λ q l. le-trans (below-at F G b q) (below
 pub below-antisym : (F G : Position) → length F ≡ length G → below F G ≡ true → below G F ≡ true → F ≡ G
 below-antisym F G e b c = same-counts F G e (λ q l. le-antisymm (below-at F G b q) (below-at G F c q))
 
-pub nowhere-below : (n : ℕ) (F : Position) → below (nowhere n) F ≡ true
-nowhere-below n F = below-of (nowhere n) F (λ q l. rw (count-nowhere n q) zero-le)
-
 -- safe: likewise
 pub safe-at : (K : ℕ) (F : Position) → safe K F ≡ true → (q : ℕ) → count F q ≤ K + 1
 unfolding safe

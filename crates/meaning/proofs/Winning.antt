@@ -30,9 +30,6 @@ keeps-down K t F G σ b k =
       half = λ p c run w out. omega (arith, below-at F G b p, k .half p (omega (arith, below-at F G b p)) run w out);
     }
 
-pub wins-down : (K : ℕ) (t : Table) (F G : Position) → below F G ≡ true → Wins K t G → Wins K t F
-wins-down K t F G b w = record { strategy = w .strategy; legal = w .legal; keeps = keeps-down K t F G (w .strategy) b (w .keeps) }
-
 -- Into the set
 
 -- what is left of a strategy after a first round with input i, which is the earliest and so stands last

@@ -77,6 +77,12 @@ pub record SameResult (t : Table) (s o : Solved) : Type 0 where
   pub same-winners : winningList s ≡ winningList o
   pub same-controller : code (s .answer) ≡ 0 → controllerWritten t s ≡ controllerWritten t o
 
+-- the same code, rounds and number of winners, where the states of two tables are numbered otherwise
+pub record SameNumbers (s o : Solved) : Type 0 where
+  pub same-code : code (s .answer) ≡ code (o .answer)
+  pub same-rounds : s .answer .rounds ≡ o .answer .rounds
+  pub same-number : s .answer .winners ≡ o .answer .winners
+
 -- the bytes that a join wrote
 abbrev pub wrote : Joined → List ℕ
 wrote j = take (j .answer .place) (j .outAfter)
