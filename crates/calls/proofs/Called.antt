@@ -1,5 +1,5 @@
--- What a call leaves, by whether the answer's buffer is long enough. Where it isn't, a call that solves is made with no room for positions, and so is
--- refused with 2 or 3 before it writes anything. Assumes nothing.
+-- What a call leaves, by whether the answer's buffer is long enough. Where it isn't, a call that solves is made with no room for
+-- positions, and so is refused with 2 or 3 before it writes anything. Assumes nothing.
 use mathlib.Core.Path.{_≡_, refl, ap, _∙_}
 use mathlib.Core.Bool.{Bool, true, false, cond}
 use mathlib.Core.List.{List}
@@ -18,7 +18,8 @@ pub record Roomless (K : ℕ) (win con : List ℕ) (s : Solved) : Type 0 where
   pub winners-stay : s .winnersAfter ≡ win
   pub controller-stays : s .controllerAfter ≡ con
 
-roomless : (K : ℕ) (win con : List ℕ) (s : Solved) → s ≡ cond (ltb 7 K) (unsolved win con (bound K)) (unsolved win con (room 0 win con)) → Roomless K win con s
+roomless : (K : ℕ) (win con : List ℕ) (s : Solved) → s ≡ cond (ltb 7 K) (unsolved win con (bound K)) (unsolved win con (room 0 win con))
+    → Roomless K win con s
 unfolding bound room unsolved refused
 roomless K win con s e = go (ltb 7 K) refl
   where

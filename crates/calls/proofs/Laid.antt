@@ -1,5 +1,5 @@
--- The answer's buffer while the fields are laid down: those of the first i are there, four bytes each, and what is beyond them stays. Assumes
--- nothing.
+-- The answer's buffer while the fields are laid down: those of the first i are there, four bytes each, and what is beyond them stays.
+-- Assumes nothing.
 use mathlib.Core.Path.{_≡_, refl, sym, ap, _∙_}
 use mathlib.Core.List.{List, [], _∷_, _++_, flatMap}
 use Prim.Native.Nat.{ℕ, _+_, _*_, _/_, _%_, _≤_, _<_}
@@ -28,7 +28,8 @@ module _ (xs : List ℕ) where
 
   -- one field more
   pub field-laid : (old out : List ℕ) (i x : ℕ) → i < length xs → i * 4 + 4 ≤ length old → x ≡ getD xs i 0 → out ≡ written (laid i) old
-      → set (set (set (set out (i * 4) (x % 256)) (i * 4 + 1) (x / 256 % 256)) (i * 4 + 2) (x / 65536 % 256)) (i * 4 + 3) (x / 16777216 % 256)
+      → set (set (set (set out (i * 4) (x % 256)) (i * 4 + 1) (x / 256 % 256)) (i * 4 + 2) (x / 65536 % 256)) (i * 4 + 3)
+      (x / 16777216 % 256)
       ≡ written (laid (i + 1)) old
   unfolding fourBytes
   field-laid old out i x l room e w =

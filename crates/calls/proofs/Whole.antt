@@ -1,5 +1,6 @@
--- Nothing of an answer is lost in its bytes: four bytes hold a number below 2 ^ 32, and every field of an answer of the three calls is one. A code is at
--- most 14, a place at most 4,160, which at most 2, rounds at most 9 ^ 8, and there are at most 256 winners. Assumes nothing.
+-- Nothing of an answer is lost in its bytes: four bytes hold a number below 2 ^ 32, and every field of an answer of the three calls is
+-- one. A code is at most 14, a place at most 4,160, which at most 2, rounds at most 9 ^ 8, and there are at most 256 winners. Assumes
+-- nothing.
 use mathlib.Core.Path.{_≡_, refl, sym, ap, ap₂, _∙_}
 use mathlib.Core.Bool.{Bool, true, false, cond, not, _||_}
 use mathlib.Core.List.{List, [], _∷_, _++_, flatMap}
@@ -47,7 +48,8 @@ four-told x h =
     let fourth : x / 16777216 ≡ x / 256 / 256 / 256 = sym (div-div-eq-div-mul (x / 256) 256 256 ∙ div-div-eq-div-mul x 256 65536) in
     rw (third, fourth) (go x h)
   where
-    go : (x : ℕ) → x < 4294967296 → x % 256 + 256 * (x / 256 % 256) + 65536 * (x / 256 / 256 % 256) + 16777216 * (x / 256 / 256 / 256 % 256) ≡ x
+    go : (x : ℕ) → x < 4294967296 → x % 256 + 256 * (x / 256 % 256) + 65536 * (x / 256 / 256 % 256)
+        + 16777216 * (x / 256 / 256 / 256 % 256) ≡ x
     go x h = omega arith
 
 pub numbers-told : (xs : List ℕ) → Fit xs → numbersIn (flatMap fourBytes xs) ≡ xs
@@ -78,8 +80,14 @@ table-few which bytes w =
       λ sized.
           let size = ltb-false 4160 (length bytes) (neither-right ragged (ltb 4160 (length bytes)) sized) in
           let number : length rs ≤ 4160 = omega (arith, records-count bytes) in
-          let at : (i : ℕ) → ltb i (length rs) ≡ true → (i ≤ 4160) × (which ≤ 2) = λ i f. (omega (arith, ltb-true i (length rs) f), w) in
-          (at (place outside rs), λ _. (at (descent rs), λ _. (λ _. none, λ _. (λ _. none, λ _. (at (place (dangling (tableOf rs)) rs), λ _. (λ _. none, λ _. tt)))))),
+          let at : (i : ℕ) → ltb i (length rs) ≡ true → (i ≤ 4160) × (which ≤ 2) = λ i f. (omega (arith, ltb-true i (length rs) f), w) in (
+            at (place outside rs),
+            λ _. (
+              at (descent rs),
+              λ _.
+                  (λ _. none, λ _. (λ _. none, λ _. (at (place (dangling (tableOf rs)) rs), λ _. (λ _. none, λ _. tt)))),
+            ),
+          ),
     )
 
 stage-few : (which K N : ℕ) (t : Table) (X : Set) → which ≤ 2 → Each Few (stageChecks which K N t X)
@@ -96,8 +104,10 @@ pair-few one two =
 -- the fields of a refusal, and of whatever a list of checks comes to
 refused-fits : (c : Check) → Few c → Fit (fields (refused c))
 unfolding fields refused
-refused-fits c few =
-    (omega (arith, code-below (Refused (c .refusal))), (omega (arith, few .0), (omega (arith, few .1), (lit< tt, (lit< tt, (lit< tt, tt))))))
+refused-fits c few = (
+  omega (arith, code-below (Refused (c .refusal))),
+  (omega (arith, few .0), (omega (arith, few .1), (lit< tt, (lit< tt, (lit< tt, tt))))),
+)
 
 judged-fits : {A : Type 0} (answer : A → Answer) (refuse : Check → A) (grant : A) → ((c : Check) → answer (refuse c) ≡ refused c)
     → (cs : List Check) → Each Few cs → (Passes cs → Fit (fields (answer grant))) → Fit (fields (answer (judge cs refuse grant)))
@@ -107,7 +117,8 @@ judged-fits answer refuse grant same (c ∷ cs) few granted =
     (λ f. judged-fits answer refuse grant same cs (few .1 f) (λ p. granted (rw f p)))
 
 -- and of a call that solves
-start-fits : (won : Bool) (s number : ℕ) → (won ≡ true → s < number) → number ≤ 256 → startOf (cond won (Realizable s) Unrealizable) < 4294967296
+start-fits : (won : Bool) (s number : ℕ) → (won ≡ true → s < number) → number ≤ 256
+    → startOf (cond won (Realizable s) Unrealizable) < 4294967296
 start-fits true s number h n = omega (arith, h refl)
 start-fits false s number h n = lit< tt
 
@@ -149,11 +160,18 @@ solve-fits bytes K N win con =
     let t = tableOf rs in
     let X = allSafe K (t .controllers) in
     let none : Few (bound K) = (zero-le, zero-le) in
-    judged-fits (λ (s : Solved). s .answer) (unsolved win con) (solvedFrom K t X win con) (λ c. refl) (solveChecks bytes K N win con)
-    (λ _. none, λ _. (λ _. none, λ _. each-append Few (tableChecks 0 bytes) (stageChecks 0 K N t X) (table-few 0 bytes zero-le) (stage-few 0 K N t X zero-le)))
+    judged-fits (λ (s : Solved). s .answer) (unsolved win con) (solvedFrom K t X win con) (λ c. refl) (solveChecks bytes K N win con) (
+      λ _. none,
+      λ _. (
+        λ _. none,
+        λ _. each-append Few (tableChecks 0 bytes) (stageChecks 0 K N t X) (table-few 0 bytes zero-le)
+            (stage-few 0 K N t X zero-le),
+      ),
+    )
     (λ p.
     let q = solve-passes bytes K N win con p in
-    solved-fits K N t X win con (ltb-false 7 K (q .in-bound)) (sound-few rs (passes-sound 0 bytes (q .table))) (room-within N win con (q .roomy) .1)
+    solved-fits K N t X win con (ltb-false 7 K (q .in-bound)) (sound-few rs (passes-sound 0 bytes (q .table)))
+    (room-within N win con (q .roomy) .1)
     (passes-at (stageChecks 0 K N t X) (q .stage) 0 (bound 0) (lit< tt)))
 
 pub parts-fits : (one two : List ℕ) (K N : ℕ) (win con : List ℕ) → Fit (fields (parts one two K N win con .answer))
@@ -173,12 +191,14 @@ parts-fits one two K N win con =
         λ _. none,
         λ _. each-append Few (pairChecks one two) (partsStages one two K N) (pair-few one two)
             (each-append Few (alone 1 one ++ alone 2 two) last
-            (each-append Few (alone 1 one) (alone 2 two) (few 1 one (lit≤ tt)) (few 2 two (lit≤ tt))) (λ _. none, λ _. stage-few 0 K N both X zero-le)),
+            (each-append Few (alone 1 one) (alone 2 two) (few 1 one (lit≤ tt)) (few 2 two (lit≤ tt)))
+            (λ _. none, λ _. stage-few 0 K N both X zero-le)),
       ),
     )
     (λ p.
     let q = parts-passes one two K N win con p in
-    solved-fits K N both X win con (ltb-false 7 K (q .in-bound)) (sound-few rs (joined-sound (recordsOf one) (recordsOf two) (passes-paired one two (q .pair))))
+    solved-fits K N both X win con (ltb-false 7 K (q .in-bound))
+    (sound-few rs (joined-sound (recordsOf one) (recordsOf two) (passes-paired one two (q .pair))))
     (room-within N win con (q .roomy) .1) (passes-at (stageChecks 0 K N both X) (q .last-stage) 0 (bound 0) (lit< tt)))
 
 pub join-fits : (one two out : List ℕ) → Fit (fields (join one two out .answer))
@@ -190,10 +210,12 @@ join-fits one two out =
     (λ p.
     let pair = passes-paired one two (passes-right (roomToJoin out ∷ []) (pairChecks one two) p) in
     let ragged = eqb (length new) 0 || not (eqb (length new % 4) 0) in
-    let size = ltb-false 4160 (length new) (neither-right ragged (ltb 4160 (length new)) (joined-length (recordsOf one) (recordsOf two) pair)) in
+    let size = ltb-false 4160 (length new)
+    (neither-right ragged (ltb 4160 (length new)) (joined-length (recordsOf one) (recordsOf two) pair)) in
     (lit< tt, (omega arith, (lit< tt, (lit< tt, (lit< tt, (lit< tt, tt)))))))
 
--- "six fields of four bytes, low byte first": the first 24 bytes of the answer's buffer say the whole answer
+-- the answer is six fields of four bytes, low byte first: the first 24 bytes of the answer's buffer say the whole answer
 pub said : (a : Answer) (ans : List ℕ) → Fit (fields a) → numbersIn (take 24 (written (answerBytes a) ans)) ≡ fields a
 unfolding answerBytes fields
-said a ans fit = ap numbersIn (take-at (answerBytes a) (drop (length (answerBytes a)) ans) 24 (four-length (fields a))) ∙ numbers-told (fields a) fit
+said a ans fit = ap numbersIn (take-at (answerBytes a) (drop (length (answerBytes a)) ans) 24 (four-length (fields a)))
+    ∙ numbers-told (fields a) fit

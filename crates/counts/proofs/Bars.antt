@@ -25,7 +25,8 @@ use Rattle.counts.proofs.Cells.{cells-at}
 use Rattle.counts.proofs.Edges.{bit-beyond, within, smallest-next, smallest-within}
 use Rattle.counts.specs.Words.{countsBefore, countsIn, barCounts}
 use Rattle.counts.proofs.Lesser.{lesser-at}
-use Rattle.counts.proofs.Bytes.{countsIn-length, countsIn-low, bytes, Packed, packed-none, packed-next, packed-whole}
+use Rattle.counts.proofs.Bytes.{countsIn-length, countsIn-low, bytes}
+use Rattle.counts.proofs.Packing.{Packed, packed-none, packed-next, packed-whole}
 
 -- an or of two numbers is the or of their counts
 or-before : (n a b : ℕ) (F G H : Position) → ((p : ℕ) → count H p ≡ bitOr (count F p) (count G p))

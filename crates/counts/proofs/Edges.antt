@@ -13,8 +13,7 @@ use lib.Dec.{ltb}
 use lib.ListN.{length, getD, List·getD-eq-default}
 use Rattle.meaning.specs.Lists.{largest, smallest}
 use Rattle.meaning.specs.Table.{bit}
-use Rattle.meaning.proofs.Tests.{largest-at, largest-of, smallest-top, smallest-at, smallest-of}
-use Rattle.meaning.proofs.Steps.{over-edge}
+use Rattle.meaning.proofs.Tests.{cond-cases, largest-at, largest-of, smallest-top, smallest-at, smallest-of}
 
 -- eight bits: no edge leads to a state from 8 on
 pub bit-beyond : (mask q : ℕ) → 8 ≤ q → bit mask q ≡ false
@@ -43,7 +42,7 @@ module _ (e n : ℕ) (f : ℕ → ℕ) where
   largest-within none =
       le-antisymm
       (largest-of e (within n 0 f) (largest n f)
-      (λ i _. over-edge (ltb i n) (f i) 0 (λ c. c ≤ largest n f) (λ t. largest-at n f i (ltb-true i n t)) (λ _. zero-le)))
+      (λ i _. cond-cases (ltb i n) (f i) 0 (λ c. c ≤ largest n f) (λ t. largest-at n f i (ltb-true i n t)) (λ _. zero-le)))
       (largest-of n f (largest e (within n 0 f)) (λ i l. go i l (decLt i e)))
     where
       go : (i : ℕ) → i < n → Dec (i < e) → f i ≤ largest e (within n 0 f)
@@ -55,7 +54,7 @@ module _ (e n : ℕ) (f : ℕ → ℕ) where
       le-antisymm
       (smallest-of top n f (smallest top e (within n top f)) (smallest-top top e (within n top f)) (λ i l. go i l (decLt i e)))
       (smallest-of top e (within n top f) (smallest top n f) (smallest-top top n f)
-      (λ i _. over-edge (ltb i n) (f i) top (λ c. smallest top n f ≤ c)
+      (λ i _. cond-cases (ltb i n) (f i) top (λ c. smallest top n f ≤ c)
       (λ t. smallest-at top n f i (ltb-true i n t)) (λ _. smallest-top top n f)))
     where
       go : (i : ℕ) → i < n → Dec (i < e) → smallest top e (within n top f) ≤ f i

@@ -6,4 +6,5 @@ pub mod Halves
 pub mod Wide
 pub mod Lesser
 pub mod Bytes
+pub mod Packing
 pub mod Bars

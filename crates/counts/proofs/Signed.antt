@@ -1,22 +1,21 @@
--- Signed counts. First what the code meets: a signed test, and the casts between bytes and signed numbers. Then the steps of one count:
--- each signed definition, read one higher, is the step that the definitions over ℕ make (`lesser-signed`, `greater-signed`, `plus-signed`,
--- `less-signed`, `lower-signed`). By cases on the signs. Assumes nothing.
+-- Signed counts as the code meets them: a signed test, and the casts between bytes and signed numbers. What each step of one count comes
+-- to, read one higher, is said in meaning (Signed.antt). By cases on the signs. Assumes nothing.
 use mathlib.Core.Path.{_≡_, refl, sym, ap, _∙_}
 use mathlib.Core.Bool.{true, false, true≢false}
-use Prim.Native.Nat.{ℕ, zero, suc, _+_, _-_, _≤_, _<_, min, max, zero-le}
+use Prim.Native.Nat.{ℕ, zero, suc, _≤_, _<_, zero-le}
 use native.Mathlib.Nat.{not-suc-le-zero}
 use native.Mathlib.Decide.{decLt}
 use native.Mathlib.Omega.{arith}
-use lib.Dec.{T, leb, ltb, leb·zero, leb·suc-zero, leb·suc-suc}
-use lib.IntN.{ℤ, pos, negsuc, natAbs, _-ℤ_, +ℤ-idr}
+use lib.Dec.{T, leb, leb·zero, leb·suc-zero, leb·suc-suc}
+use lib.IntN.{ℤ, pos, negsuc, natAbs, _-ℤ_}
 use lib.Signed.{mag, ltZ, leZ, nonNeg}
-use borrow.Author.Tests.{ltb-true, ltb-false, lt-ltb, le-ltb}
+use borrow.Author.Tests.{ltb-true, le-ltb}
 use mir.Syntax.{w8, w16}
 use mir.Val.{SFits, toZ, ofZ}
 use mir.ValLaws.{toZ-pos, toZ-ofZ}
-use Rattle.meaning.specs.Counting.{oneHigher, plus}
-use Rattle.meaning.proofs.Tests.{cond-cases}
-use Rattle.counts.specs.Signed.{noRun, minZ, maxZ, plusSigned, lessSigned, oneLower}
+use Rattle.meaning.specs.Counting.{oneHigher}
+use Rattle.meaning.specs.Signed.{noRun, maxZ, plusSigned, oneLower}
+use Rattle.meaning.proofs.Signed.{less-short, less-enough, less-negative}
 
 -- below 0: no run is there
 pub negative : (a : ℤ) → ltZ a (pos 0) ≡ true → oneHigher a ≡ 0
@@ -45,19 +44,6 @@ at-most-counted (pos a) (pos b) t = sym (leb·suc-suc a b)
 at-most-counted (pos a) (negsuc b) t = sym (leb·suc-zero a)
 at-most-counted (negsuc a) b t = absurd (true≢false t)
 
--- a test of two counts goes the way of the counts
-pub ordered : (a b : ℤ) → ltZ a b ≡ true → oneHigher a ≤ oneHigher b
-ordered (pos a) (pos b) t = let l : a < b = ltb-true a b t in omega arith
-ordered (pos a) (negsuc b) t = absurd (true≢false (sym t))
-ordered (negsuc a) (pos b) t = zero-le
-ordered (negsuc a) (negsuc b) t = zero-le
-
-pub not-ordered : (a b : ℤ) → ltZ a b ≡ false → oneHigher b ≤ oneHigher a
-not-ordered (pos a) (pos b) t = let l : b ≤ a = ltb-false a b t in omega arith
-not-ordered (pos a) (negsuc b) t = zero-le
-not-ordered (negsuc a) (pos b) t = absurd (true≢false t)
-not-ordered (negsuc a) (negsuc b) t = zero-le
-
 -- the bits of a signed byte stand for it
 pub from-bits : (a : ℤ) → mag a < 128 → toZ w8 (ofZ w8 a) ≡ a
 from-bits a h = toZ-ofZ w8 a (record { sfits = h })
@@ -70,54 +56,9 @@ byte-counted n h = ap oneHigher (toZ-pos w8 n h)
 pub wider : (a : ℤ) → SFits w8 a → SFits w16 a
 wider a f = let l : mag a < 128 = f .sfits in record { sfits = omega arith }
 
--- the lesser and the greater of two
-pub lesser-signed : (a b : ℤ) → oneHigher (minZ a b) ≡ min (oneHigher a) (oneHigher b)
-unfolding minZ
-lesser-signed a b =
-    cond-cases (ltZ a b) a b (λ z. oneHigher z ≡ min (oneHigher a) (oneHigher b))
-    (λ t. omega (arith, ordered a b t)) (λ t. omega (arith, not-ordered a b t))
-
-pub greater-signed : (a b : ℤ) → oneHigher (maxZ a b) ≡ max (oneHigher a) (oneHigher b)
-unfolding maxZ
-greater-signed a b =
-    cond-cases (ltZ a b) b a (λ z. oneHigher z ≡ max (oneHigher a) (oneHigher b))
-    (λ t. omega (arith, ordered a b t)) (λ t. omega (arith, not-ordered a b t))
-
--- a count and a mark: at a run the lesser of K + 1 and their sum
-min-pos : (a b : ℕ) → minZ (pos a) (pos b) ≡ pos (min a b)
-unfolding minZ
-min-pos a b =
-    cond-cases (ltb a b) (pos a) (pos b) (λ z. z ≡ pos (min a b))
-    (λ t. let l : a < b = ltb-true a b t in ap pos (omega arith))
-    (λ t. let l : b ≤ a = ltb-false a b t in ap pos (omega arith))
-
 pub plus-no-run : (K mark : ℕ) (c : ℤ) → ltZ c (pos 0) ≡ true → noRun ≡ plusSigned K mark c
 unfolding plusSigned
 plus-no-run K mark c t = rw t
-
-pub plus-run : (K mark : ℕ) (c : ℤ) → ltZ c (pos 0) ≡ false → plusSigned K mark c ≡ pos (min (K + 1) (natAbs c + mark))
-unfolding plusSigned
-plus-run K mark (pos c) t = rw t (min-pos (K + 1) (c + mark))
-plus-run K mark (negsuc c) t = absurd (true≢false t)
-
-pub plus-signed : (K mark : ℕ) (c : ℤ) → oneHigher (plusSigned K mark c) ≡ plus K mark (oneHigher c)
-unfolding plusSigned plus
-plus-signed K mark (pos c) =
-    ap oneHigher (plus-run K mark (pos c) (le-ltb c 0 zero-le)) ∙ omega arith
-plus-signed K mark (negsuc c) = refl
-
--- a count less a mark
-less-short : (c mark : ℕ) → c < mark → pos c -ℤ pos mark ≡ negsuc (mark - suc c)
-less-short c zero l = absurd (not-suc-le-zero l)
-less-short c (suc mark) l = rw (lt-ltb c (suc mark) l)
-
-less-enough : (c mark : ℕ) → mark ≤ c → pos c -ℤ pos mark ≡ pos (c - mark)
-less-enough c zero l = ap pos (omega arith)
-less-enough c (suc mark) l = rw (le-ltb c (suc mark) l)
-
-less-negative : (c mark : ℕ) → negsuc c -ℤ pos mark ≡ negsuc (c + mark)
-less-negative c zero = +ℤ-idr (negsuc c) ∙ ap negsuc (omega arith)
-less-negative c (suc mark) = ap negsuc (omega arith)
 
 -- the floor at -1
 pub floored : (c : ℤ) → ltZ c (pos 0) ≡ true → noRun ≡ maxZ noRun c
@@ -150,21 +91,6 @@ less-small (pos c) mark f t = go (decLt c mark)
     go (yes s) = absurd (true≢false (rw (less-short c mark s) at t))
     go (no s) = rw (less-enough c mark (omega arith)) (record { sfits = omega (arith, f .sfits) })
 less-small (negsuc c) mark f t = absurd (true≢false (rw (less-negative c mark) at t))
-
-pub less-signed : (c : ℤ) (mark : ℕ) → oneHigher (lessSigned c mark) ≡ oneHigher c - mark
-unfolding lessSigned
-less-signed (pos c) mark = go (decLt c mark)
-  where
-    go : Dec (c < mark) → oneHigher (maxZ noRun (pos c -ℤ pos mark)) ≡ suc c - mark
-    go (yes s) = rw (less-short c mark s) (omega (arith, greater-signed noRun (negsuc (mark - suc c))))
-    go (no s) = rw (less-enough c mark (omega arith)) (omega (arith, greater-signed noRun (pos (c - mark))))
-less-signed (negsuc c) mark = rw (less-negative c mark) (omega (arith, greater-signed noRun (negsuc (c + mark))))
-
--- a byte's count is one lower than the byte
-pub lower-signed : (b : ℕ) → oneHigher (oneLower b) ≡ b
-unfolding oneLower
-lower-signed zero = refl
-lower-signed (suc b) = rw (less-enough (suc b) 1 (omega arith)) (omega arith)
 
 pub lower-fits : (b : ℕ) → b ≤ 128 → SFits w8 (oneLower b)
 unfolding oneLower

@@ -1,4 +1,3 @@
 -- What the contracts of this crate cite beside the definitions of `meaning`.
-pub mod Signed
 pub mod Cells
 pub mod Words

@@ -3,7 +3,7 @@ ghost use mathlib.Core.Path.{_≡_};
 ghost use Prim.Native.Nat.{_≤_, min};
 ghost use lib.Dec.{leb};
 ghost use Rattle.meaning.specs.Counting.{oneHigher};
-ghost use Rattle.counts.specs.Signed.{minZ, maxZ, plusSigned, lessSigned, oneLower};
+ghost use Rattle.meaning.specs.Signed.{minZ, maxZ, plusSigned, lessSigned, oneLower};
 
 // Whether one count is at most another.
 pub fn at_most(a: i8, b: i8) -> bool

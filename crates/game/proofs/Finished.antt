@@ -1,5 +1,5 @@
--- What finishing comes to in each of its three cases: no winner, a start position that does not win, and one that does. By the tests that decide.
--- Assumes nothing.
+-- What finishing comes to in each of its three cases: no winner, a start position that does not win, and one that does. By the tests that
+-- decide. Assumes nothing.
 use mathlib.Core.Path.{_≡_, sym, ap, _∙_}
 use mathlib.Core.Bool.{Bool, true}
 use mathlib.Core.List.{List}
@@ -20,7 +20,8 @@ use Rattle.game.specs.Finished.{finished, Bounded}
 use Rattle.game.proofs.Stepped.{below-same}
 
 -- the start state, by the start position in eight counts
-pub start-stepped : (K : ℕ) (t : Table) → Bounded K t → (ws : List Position) (F : Position) → F ≡ positionBytes (startPosition K t) → covering ws F ≡ startState K t ws
+pub start-stepped : (K : ℕ) (t : Table) → Bounded K t → (ws : List Position) (F : Position) → F ≡ positionBytes (startPosition K t)
+    → covering ws F ≡ startState K t ws
 unfolding covering startState startPosition
 start-stepped K t bounded ws F e =
     ap (λ (G : Position). covering ws G) e
@@ -31,14 +32,17 @@ module _ (K : ℕ) (t : Table) (ws : List Position) (rounds : ℕ) (win con : Li
   unfolding finished unsolved refused
   finished-nothing e = rw (eq-eqb (length ws) 0 (number ∙ e))
 
-  module _ (some : n ≡ 0 → ⊥) (start : ℕ) (begins : start ≡ startState K t ws) (winners : List ℕ) (written-winners : winners ≡ written (winnersBytes ws) win) where
+  module _ (some : n ≡ 0 → ⊥) (start : ℕ) (begins : start ≡ startState K t ws) (winners : List ℕ)
+      (written-winners : winners ≡ written (winnersBytes ws) win) where
     -- the start position does not win
     pub finished-without : n ≤ start
-        → solved (record { verdict = Unrealizable; place = 0; which = 0; rounds = rounds; winners = n }) winners con ≡ finished K t ws rounds win con
+        → solved (record { verdict = Unrealizable; place = 0; which = 0; rounds = rounds; winners = n }) winners con
+        ≡ finished K t ws rounds win con
     unfolding finished answered
     finished-without h =
         rw (ne-eqb (length ws) 0 (λ e. some (sym number ∙ e)), le-ltb (startState K t ws) (length ws) (omega arith))
-        (λ i. solved (record { verdict = Unrealizable; place = 0; which = 0; rounds = rounds; winners = sym number i }) (written-winners i) con)
+        (λ i. solved (record { verdict = Unrealizable; place = 0; which = 0; rounds = rounds; winners = sym number i })
+        (written-winners i) con)
 
     -- it does, and the rows are written
     pub finished-with : start < n → (controller : List ℕ) → controller ≡ written (rowBytes (rowsFrom K t (covered ws) ws start)) con
@@ -47,5 +51,6 @@ module _ (K : ℕ) (t : Table) (ws : List Position) (rounds : ℕ) (win con : Li
     unfolding finished answered
     finished-with h controller p =
         rw (ne-eqb (length ws) 0 (λ e. some (sym number ∙ e)), lt-ltb (startState K t ws) (length ws) (omega arith))
-        (λ i. solved (record { verdict = Realizable (begins i); place = 0; which = 0; rounds = rounds; winners = sym number i }) (written-winners i)
+        (λ i. solved (record { verdict = Realizable (begins i); place = 0; which = 0; rounds = rounds; winners = sym number i })
+        (written-winners i)
         ((p ∙ ap (λ (s : ℕ). written (rowBytes (rowsFrom K t (covered ws) ws s)) con) begins) i))

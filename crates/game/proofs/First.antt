@@ -1,6 +1,6 @@
--- The first set of the rounds by its list: a list of maximal members covers exactly their set, since a position of the set is below one of them and
--- the set contains everything below its members. So a list that stands for a first set is a first list, and that of the brim stands for all safe
--- positions. Assumes nothing.
+-- The first set of the rounds by its list: a list of maximal members covers exactly their set, since a position of the set is below one
+-- of them and the set contains everything below its members. So a list that stands for a first set is a first list, and that of the brim
+-- stands for all safe positions. Assumes nothing.
 use mathlib.Core.Path.{_≡_, sym, ap, _∙_, fun-ext}
 use mathlib.Core.Bool.{true}
 use mathlib.Core.List.{List, [], _∷_, map, Memᴰ·map, Memᴰ·of-map}
@@ -28,7 +28,8 @@ use Rattle.sets.proofs.Engine.{allSafe-stands}
 use Rattle.game.specs.Rounds.{coveredBy, FirstList}
 
 -- the list of a set covers exactly the set
-module _ (K n : ℕ) (few : n ≤ 8) (X : Set) (down : Down X) (safe : Within X (allSafe K n)) (l : List Position) (stands : StandsFor K n X l) where
+module _ (K n : ℕ) (few : n ≤ 8) (X : Set) (down : Down X) (safe : Within X (allSafe K n)) (l : List Position)
+    (stands : StandsFor K n X l) where
   below-member : (F G : Position) → length F ≡ n → X G ≡ true → below (positionBytes F) (positionBytes G) ≡ below F G
   below-member F G e y = below-wide F G (omega arith) (omega (arith, allSafe-length K n G (safe G y)))
 
@@ -49,14 +50,16 @@ module _ (K n : ℕ) (few : n ≤ 8) (X : Set) (down : Down X) (safe : Within X 
       let e : length F ≡ n = allSafe-length K n F (safe F x) in
       let r = climb K n X safe F x in
       both (eqb (length F) n) (any (below (positionBytes F)) l) (eq-eqb (length F) n e)
-      (rw stands (any-of (below (positionBytes F)) (map positionBytes (maximalMembers K n X)) (positionBytes (r .0)) (Memᴰ·map positionBytes (r .1))
+      (rw stands (any-of (below (positionBytes F)) (map positionBytes (maximalMembers K n X)) (positionBytes (r .0))
+      (Memᴰ·map positionBytes (r .1))
       (below-member F (r .0) e (member-in K n X safe (r .0) (r .1)) ∙ r .2)))
 
   pub covered-set : coveredBy n l ≡ X
   covered-set = fun-ext (λ F. same-test (coveredBy n l F) (X F) (covered-in F) (in-covered F))
 
 -- a list that stands for a first set: it covers that set, and is a first list
-module _ (K : ℕ) (t : Table) (small : Small t) (X : Set) (first : FirstSet K t X) (l : List Position) (stands : StandsFor K (t .controllers) X l) where
+module _ (K : ℕ) (t : Table) (small : Small t) (X : Set) (first : FirstSet K t X) (l : List Position)
+    (stands : StandsFor K (t .controllers) X l) where
   pub first-covered : coveredBy (t .controllers) l ≡ X
   first-covered = covered-set K (t .controllers) (small .controllers) X (first .down) (first .safe) l stands
 
@@ -64,7 +67,8 @@ module _ (K : ℕ) (t : Table) (small : Small t) (X : Set) (first : FirstSet K t
   first-list output = record { small = small; some-output = output; first = rw first-covered first; stands = rw first-covered stands }
 
 -- the brim covers all safe positions
-pub brim-covered : (K : ℕ) (t : Table) → Small t → coveredBy (t .controllers) (positionBytes (brim K (t .controllers)) ∷ []) ≡ allSafe K (t .controllers)
+pub brim-covered : (K : ℕ) (t : Table) → Small t → coveredBy (t .controllers) (positionBytes (brim K (t .controllers)) ∷ [])
+    ≡ allSafe K (t .controllers)
 brim-covered K t small = first-covered K t small (allSafe K (t .controllers)) (allSafe-first K t) _ (allSafe-stands K (t .controllers))
 
 pub brim-first : (K : ℕ) (t : Table) → Small t → 0 < t .outputs → FirstList K t (positionBytes (brim K (t .controllers)) ∷ [])
@@ -83,4 +87,5 @@ passes-small which bytes p =
 -- so its rounds may begin at the brim
 pub passes-first : (which : ℕ) (bytes : List ℕ) → Passes (tableChecks which bytes) → (K : ℕ)
     → FirstList K (tableOf (recordsOf bytes)) (positionBytes (brim K (tableOf (recordsOf bytes) .controllers)) ∷ [])
-passes-first which bytes p K = brim-first K (tableOf (recordsOf bytes)) (passes-small which bytes p) (passes-good which bytes p .some-output)
+passes-first which bytes p K =
+    brim-first K (tableOf (recordsOf bytes)) (passes-small which bytes p) (passes-good which bytes p .some-output)

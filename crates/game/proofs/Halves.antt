@@ -1,5 +1,5 @@
--- The half of a round that masks of one letter and marks state is the table's: an edge is a bit of the byte of its letter and state, and there is
--- none from a ninth state. Assumes nothing.
+-- The half of a round that masks of one letter and marks state is the table's: an edge is a bit of the byte of its letter and state, and
+-- there is none from a ninth state. Assumes nothing.
 use mathlib.Core.Path.{_≡_, ap, _∙_}
 use mathlib.Core.List.{List}
 use Prim.Native.Nat.{ℕ, _+_, _*_, _<_}

@@ -1,6 +1,6 @@
--- A call that solves, by the order of its checks, whichever call it is: 2 and 3 before any others, 4 to 10 of a table by the answer of `check`, and 11
--- and 12 of a stage by how its rounds settled. Each law takes what the code has found to what the definition judges next, so that the outcome is
--- put together check by check. Assumes nothing.
+-- A call that solves, by the order of its checks, whichever call it is: 2 and 3 before any others, 4 to 10 of a table by the answer of
+-- `check`, and 11 and 12 of a stage by how its rounds settled. Each law takes what the code has found to what the definition judges next,
+-- so that the outcome is put together check by check. Assumes nothing.
 use mathlib.Core.Path.{_≡_, sym, ap, _∙_}
 use mathlib.Core.Bool.{true, false, _||_}
 use mathlib.Core.List.{List, _∷_, _++_}
@@ -44,7 +44,8 @@ module _ (K N : ℕ) (win con : List ℕ) (cs : List Check) (grant : Solved) whe
   unfolding bound unsolved
   bound-refused h e = rw (e, lt-ltb 7 K h)
 
-  pub room-refused : K ≤ 7 → room N win con .failed ≡ true → {answer : Answer} → answer ≡ refused (check Room 0 0 true) → solved answer win con ≡ opened
+  pub room-refused : K ≤ 7 → room N win con .failed ≡ true → {answer : Answer} → answer ≡ refused (check Room 0 0 true)
+      → solved answer win con ≡ opened
   unfolding bound room unsolved
   room-refused h p e = rw (e, le-ltb 7 K h, p)
 

@@ -1,6 +1,6 @@
--- The winners in eight counts say what the winners say: they cover the same positions and in the same places, so that the verdict, the bytes and
--- the rows from the list are those of the winning set. A position is in that set exactly if a winner covers it; and tests and steps read counts
--- alone. Assumes nothing.
+-- The winners in eight counts say what the winners say: they cover the same positions and in the same places, so that the verdict, the
+-- bytes and the rows from the list are those of the winning set. A position is in that set exactly if a winner covers it; and tests and
+-- steps read counts alone. Assumes nothing.
 use mathlib.Core.Path.{_≡_, refl, sym, ap, ap₂, _∙_, fun-ext}
 use mathlib.Core.Bool.{Bool, false, cond, _||_}
 use mathlib.Core.List.{List, [], _∷_, map, flatMap, List·Memᴰ, List·Memᴰ·head, List·Memᴰ·tail}
@@ -16,7 +16,8 @@ use Rattle.meaning.specs.Lists.{any, place, written}
 use Rattle.meaning.specs.Table.{Table, onOutput, onInput, Good}
 use Rattle.meaning.specs.Counting.{Position, count, forward, below, covered}
 use Rattle.meaning.specs.Rounds.{Set, winning, rounds, full, FirstSet}
-use Rattle.meaning.specs.Written.{Row, positionBytes, winners, winnersBytes, covering, afterRound, outputOf, startState, rowBytes, rowsOfState, controllerRows, stateOrder}
+use Rattle.meaning.specs.Written.{Row, positionBytes, winners, winnersBytes, covering, afterRound, outputOf, startState, rowBytes}
+use Rattle.meaning.specs.Written.{rowsOfState, controllerRows, stateOrder}
 use Rattle.meaning.specs.Written.{leadsBack, rowsFrom}
 use Rattle.meaning.specs.Answers.{Solved, unsolved, solvedFrom, answered}
 use Rattle.meaning.specs.Checks.{check, judge, stageChecks, room}
@@ -50,7 +51,8 @@ bytes-alike [] = refl
 bytes-alike (F ∷ ws) = rw (wide-of-wide F, bytes-alike ws)
 
 -- nor does what follows from a position's counts
-round-alike : (K : ℕ) (t : Table) (o i : ℕ) (F G : Position) → ((q : ℕ) → count F q ≡ count G q) → afterRound K t o i F ≡ afterRound K t o i G
+round-alike : (K : ℕ) (t : Table) (o i : ℕ) (F G : Position) → ((q : ℕ) → count F q ≡ count G q)
+    → afterRound K t o i F ≡ afterRound K t o i G
 unfolding afterRound
 round-alike K t o i F G e = ap (forward K (onInput t i)) (forward-counts K (onOutput t o) F G e)
 
@@ -97,15 +99,18 @@ module _ (K : ℕ) (t : Table) (X : Set) (small : Small t) (first : FirstSet K t
     where
       go : Dec (s < length (winners K t X)) → count (getD listed s []) q ≡ count (getD (winners K t X) s []) q
       go (yes l) =
-          let few : length (getD (winners K t X) s []) ≤ 8 = rw (winner-length (getD (winners K t X) s []) (member-at (winners K t X) s [] l)) (small .controllers) in
-          ap (λ (F : Position). count F q) (getD-inside listed s [] (positionBytes []) (omega (arith, listed-length)) ∙ List·getD-map positionBytes (winners K t X) s [])
+          let few : length (getD (winners K t X) s []) ≤ 8 =
+          rw (winner-length (getD (winners K t X) s []) (member-at (winners K t X) s [] l)) (small .controllers) in
+          ap (λ (F : Position). count F q)
+          (getD-inside listed s [] (positionBytes []) (omega (arith, listed-length)) ∙ List·getD-map positionBytes (winners K t X) s [])
           ∙ wide-count (getD (winners K t X) s []) few q
       go (no l) =
           ap (λ (F : Position). count F q)
           (List·getD-eq-default listed [] (omega (arith, listed-length)) ∙ sym (List·getD-eq-default (winners K t X) [] (omega arith)))
 
   -- so outputs, next states and rows are the same
-  pub listed-output : (F G : Position) → ((q : ℕ) → count F q ≡ count G q) → outputOf K t (covered listed) F ≡ outputOf K t (winning K t X) G
+  pub listed-output : (F G : Position) → ((q : ℕ) → count F q ≡ count G q)
+      → outputOf K t (covered listed) F ≡ outputOf K t (winning K t X) G
   unfolding outputOf leadsBack
   listed-output F G e =
       first-same (t .outputs) _ _
@@ -167,7 +172,12 @@ module _ (K : ℕ) (t : Table) (X : Set) (small : Small t) (first : FirstSet K t
         let wins = ltb (length win) (8 * N) in
         let cons = ltb (length con) (32 * N) in
         record {
-          winners = omega (arith, listed-length, ltb-false (length win) (8 * N) (neither-right none wins (neither-left (none || wins) cons p)));
+          winners = omega (
+            arith,
+            listed-length,
+            ltb-false (length win) (8 * N)
+                (neither-right none wins (neither-left (none || wins) cons p)),
+          );
           controller = omega (arith, listed-length, ltb-false (length con) (32 * N) (neither-right (none || wins) cons p));
         }
 

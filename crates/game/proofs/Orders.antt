@@ -1,5 +1,5 @@
--- The order of the states, block by block: the start first, then the others, each one place up until the start's own number. By induction on the
--- number of states and on the start. Assumes nothing.
+-- The order of the states, block by block: the start first, then the others, each one place up until the start's own number. By induction
+-- on the number of states and on the start. Assumes nothing.
 use mathlib.Core.Path.{_≡_, refl, sym, ap, _∙_}
 use mathlib.Core.Bool.{true, cond, not}
 use mathlib.Core.List.{List, _∷_, List·Memᴰ}
@@ -31,7 +31,8 @@ others (suc n) f (suc a) different h =
     rw (ne-eqb (f zero) (f (suc a)) (λ e. omega (arith, different zero (suc a) e)), le-leb (suc zero) (suc a) (omega arith))
     (ap (λ (l : List ℕ). f zero ∷ l)
     (others n (λ i. f (suc i)) a (λ i j e. omega (arith, different (suc i) (suc j) e)) (le-of-suc-le-suc h)
-    ∙ tab-same n (λ b. cond (leb (suc b) a) (f (suc b)) (f (suc (suc b)))) (λ b. cond (leb (suc (suc b)) (suc a)) (f (suc b)) (f (suc (suc b))))
+    ∙ tab-same n (λ b. cond (leb (suc b) a) (f (suc b)) (f (suc (suc b))))
+    (λ b. cond (leb (suc (suc b)) (suc a)) (f (suc b)) (f (suc (suc b))))
     (λ b _. rw (leb·suc-suc (suc b) a))))
 
 pub order-tab : (start number : ℕ) → start < number → stateOrder start number ≡ tab number (stateAt start)

@@ -1,5 +1,5 @@
--- The rows that a list of winners gives, one by one: their bytes, and that each next state is one of the winners, since each winner's output leads back.
--- By the laws of appending and of searching. Assumes nothing.
+-- The rows that a list of winners gives, one by one: their bytes, and that each next state is one of the winners, since each winner's
+-- output leads back. By the laws of appending and of searching. Assumes nothing.
 use mathlib.Core.Path.{_≡_, refl, sym, ap, _∙_}
 use mathlib.Core.Bool.{Bool, true}
 use mathlib.Core.List.{List, [], _∷_, _++_, flatMap, append-assoc, append-nil}
@@ -27,7 +27,8 @@ unfolding flatMap
 flatMap-more f xs x = flatMap-append f xs (x ∷ []) ∙ ap (λ l. flatMap f xs ++ l) (append-nil (f x))
 
 -- one row more
-pub rows-more : (f : ℕ → Row) (i : ℕ) → rowBytes (tab (i + 1) f) ≡ rowBytes (tab i f) ++ f i .state ∷ f i .output ∷ f i .input ∷ f i .next ∷ []
+pub rows-more : (f : ℕ → Row) (i : ℕ) → rowBytes (tab (i + 1) f) ≡ rowBytes (tab i f)
+    ++ f i .state ∷ f i .output ∷ f i .input ∷ f i .next ∷ []
 unfolding rowBytes
 rows-more f i =
     ap rowBytes (tab-more i f) ∙ flatMap-more (λ (r : Row). r .state ∷ r .output ∷ r .input ∷ r .next ∷ []) (tab i f) (f i)
@@ -65,8 +66,10 @@ pub rows-on : (K : ℕ) (t : Table) (ws : List Position) (s : ℕ) → rowsOfSta
 unfolding rowsOfState
 rows-on K t ws s = refl
 
-pub next-inside : (K : ℕ) (t : Table) (ws : List Position) → Playable K t ws → (s i : ℕ) → s < length ws → i < t .inputs → nextOn K t ws s i < length ws
+pub next-inside : (K : ℕ) (t : Table) (ws : List Position) → Playable K t ws → (s i : ℕ) → s < length ws → i < t .inputs
+    → nextOn K t ws s i < length ws
 unfolding outputOf leadsBack covering
 next-inside K t ws playable s i h l =
     place-inside (below (afterRound K t (outputOn K t ws s) i (getD ws s []))) ws
-    (each-at (t .inputs) (λ j. covered ws (afterRound K t (outputOn K t ws s) j (getD ws s []))) (first-holds (t .outputs) _ (playable .leads s h)) i l)
+    (each-at (t .inputs) (λ j. covered ws (afterRound K t (outputOn K t ws s) j (getD ws s [])))
+    (first-holds (t .outputs) _ (playable .leads s h)) i l)

@@ -1,5 +1,5 @@
--- A run over the letters: the array holds the list of the letters so far, and each list on the way kept to the room (`Runs`). One letter more
--- keeps that up, or its list is past the room and so is the widest of them all. Assumes nothing.
+-- A run over the letters: the array holds the list of the letters so far, and each list on the way kept to the room (`Runs`). One letter
+-- more keeps that up, or its list is past the room and so is the widest of them all. Assumes nothing.
 use mathlib.Core.Path.{_≡_, sym, ap, _∙_}
 use mathlib.Core.List.{List}
 use Prim.Native.Nat.{ℕ, suc, _≤_, _<_, max}
@@ -85,7 +85,16 @@ module _ {room : ℕ} (lists : ℕ → List Position) where
           long = long ∙ so-far .long;
           holds = r .1;
           roomy =
-              omega (arith, r .0, long, so-far .long, so-far .roomy, ap length (r .1), members-length out′ m (omega (arith, r .0, long, so-far .long)));
+              omega (
+                arith,
+                r .0,
+                long,
+                so-far .long,
+                so-far .roomy,
+                ap length (r .1),
+                members-length out′ m
+                    (omega (arith, r .0, long, so-far .long)),
+              );
         }
 
     -- all letters

@@ -19,7 +19,8 @@ use Rattle.meaning.proofs.Tests.{largest-passes}
 use Rattle.meaning.proofs.Buffers.{winners-number}
 use Rattle.sets.specs.Engine.{listA, listB, nextList}
 use Rattle.sets.specs.Members.{members}
-use Rattle.sets.proofs.Engine.{Running, running-start, running-next, running-bound, running-full-A, running-full-B, first-full, running-settled}
+use Rattle.sets.proofs.Engine.{Running, running-start, running-next, running-bound, running-full-A, running-full-B, first-full}
+use Rattle.sets.proofs.Engine.{running-settled}
 use Rattle.game.specs.Rounds.{coveredBy, FirstList, widestA, widestB, widestOf, Settles}
 use Rattle.game.specs.declared.rounds.Settled.{Settled}
 use Rattle.game.specs.declared.rounds.Settled.the-variants.{After, Full}
@@ -36,7 +37,11 @@ module _ (K : ℕ) (t : Table) (ws : List Position) where
 
   pub next-within : length (nextList K t ws) ≤ widestOf K t ws
   unfolding nextList widestB widestOf
-  next-within = omega (arith, largest-at (suc (t .outputs)) (λ k. length (listB K t (listA K t ws (t .inputs)) k)) (t .outputs) (omega arith))
+  next-within = omega (
+    arith,
+    largest-at (suc (t .outputs)) (λ k. length (listB K t (listA K t ws (t .inputs)) k)) (t .outputs)
+        (omega arith),
+  )
 
 -- FULL, whatever the array holds
 settles-full : {K : ℕ} {t : Table} {X : Set} {room : ℕ} {out : List (List ℤ)} → full K t X room ≡ true → Settles K t X room out Full
@@ -85,7 +90,8 @@ module _ {K : ℕ} {t : Table} {l : List Position} (list : FirstList K t l) wher
       settles-next = running-next K t (list .small) X (list .first) (list .some-output) room r ws run roomy-A roomy-B
 
       -- the repeat
-      pub settles-repeat : {out : List (List ℤ)} {n : ℕ} → nextList K t ws ≡ ws → n ≡ length ws → members out n ≡ ws → Settles K t X room out (After r n)
+      pub settles-repeat : {out : List (List ℤ)} {n : ℕ} → nextList K t ws ≡ ws → n ≡ length ws → members out n ≡ ws
+          → Settles K t X room out (After r n)
       settles-repeat {out} {n} e s m =
           let (last, won, roomy) = running-settled K t (list .small) X (list .first) (list .some-output) room r ws run roomy-A roomy-B e in
           let number : length (winners K t X) ≡ n = sym (s ∙ ap length won ∙ length-map (winners K t X) positionBytes) in
@@ -101,11 +107,13 @@ module _ {K : ℕ} {t : Table} {X : Set} {room : ℕ} {out : List (List ℤ)} {s
       go false f = absurd (let z : _≡_ {A = ℕ} 0 1 = cc (rw f at (h .answer), e) in omega arith)
 
   pub after-settled : {r n : ℕ} → settled ≡ After r n
-      → (full K t X room ≡ false) × (r ≡ rounds K t X) × (n ≡ length (winners K t X)) × (members out n ≡ map positionBytes (winners K t X)) × (n ≤ room)
+      → (full K t X room ≡ false) × (r ≡ rounds K t X) × (n ≡ length (winners K t X))
+      × (members out n ≡ map positionBytes (winners K t X)) × (n ≤ room)
   after-settled {r} {n} e = go (full K t X room) refl
     where
       go : (b : Bool) → full K t X room ≡ b
-          → (full K t X room ≡ false) × (r ≡ rounds K t X) × (n ≡ length (winners K t X)) × (members out n ≡ map positionBytes (winners K t X)) × (n ≤ room)
+          → (full K t X room ≡ false) × (r ≡ rounds K t X) × (n ≡ length (winners K t X))
+          × (members out n ≡ map positionBytes (winners K t X)) × (n ≤ room)
       go true f = absurd (let z : _≡_ {A = ℕ} 0 1 = cc (rw f at (h .answer), e) in omega arith)
       go false f =
           let number : n ≡ length (winners K t X) = cc (rw f at (h .answer), e) in

@@ -30,7 +30,8 @@ module _ (old : List ℕ) where
   -- the next number of a tab, and the next member of a list
   pub tab-store : (f : ℕ → ℕ) (i x : ℕ) → x ≡ f i → i < length old → set (written (tab i f) old) i x ≡ written (tab (i + 1) f) old
   tab-store f i x e h =
-      written-store (tab i f) i x (tab-length i f) h ∙ ap (λ (l : List ℕ). written l old) (ap (λ (y : ℕ). tab i f ++ y ∷ []) e ∙ sym (tab-more i f))
+      written-store (tab i f) i x (tab-length i f) h
+      ∙ ap (λ (l : List ℕ). written l old) (ap (λ (y : ℕ). tab i f ++ y ∷ []) e ∙ sym (tab-more i f))
 
   pub list-store : (all : List ℕ) (i x : ℕ) → x ≡ getD all i 0 → i < length all → i < length old
       → set (written (take i all) old) i x ≡ written (take (i + 1) all) old
@@ -47,7 +48,8 @@ module _ (old : List ℕ) where
       let front : take at whole ≡ new = ap (take at) w ∙ take-at new (drop (length new) old) at e in
       let rest : left ≡ drop (length new) old = ap (drop at) w ∙ drop-at new (drop (length new) old) at e in
       let all : take (length whole - at) left ≡ left = take-all (length whole - at) left (omega (arith, length-drop at whole)) in
-      let none : drop (length whole - at) left ≡ [] = drop-of-length-le left {i = length whole - at} (omega (arith, length-drop at whole)) in
+      let none : drop (length whole - at) left ≡ [] =
+      drop-of-length-le left {i = length whole - at} (omega (arith, length-drop at whole)) in
       rw (none, front, p, all, rest, append-nil, length-append, append-assoc, drop-drop)
 
 -- four stores more
@@ -59,9 +61,11 @@ four-stored old new at a b c d e h =
     ∙ ap (λ (l : List ℕ). set l (at + 3) d) (more (a ∷ b ∷ []) (at + 2) c (omega arith) (omega arith))
     ∙ more (a ∷ b ∷ c ∷ []) (at + 3) d (omega arith) (omega arith)
   where
-    more : (xs : List ℕ) (i x : ℕ) → length new + length xs ≡ i → i < length old → set (written (new ++ xs) old) i x ≡ written (new ++ (xs ++ x ∷ [])) old
+    more : (xs : List ℕ) (i x : ℕ) → length new + length xs ≡ i → i < length old
+        → set (written (new ++ xs) old) i x ≡ written (new ++ (xs ++ x ∷ [])) old
     more xs i x p l = rw (← append-assoc new xs (x ∷ [])) (written-store old (new ++ xs) i x (length-append new xs ∙ p) l)
 
 -- a row's four bytes
-pub row-stored : (old : List ℕ) (a b i n : ℕ) → 4 ≤ length old → set (set (set (set old 0 a) 1 b) 2 i) 3 n ≡ written (a ∷ b ∷ i ∷ n ∷ []) old
+pub row-stored : (old : List ℕ) (a b i n : ℕ) → 4 ≤ length old
+    → set (set (set (set old 0 a) 1 b) 2 i) 3 n ≡ written (a ∷ b ∷ i ∷ n ∷ []) old
 row-stored old a b i n h = four-stored old [] 0 a b i n refl h

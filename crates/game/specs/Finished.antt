@@ -16,7 +16,7 @@ use Rattle.sets.specs.Engine.{Small}
 unfoldable pub stateAt : ℕ → ℕ → ℕ
 stateAt start b = cond (eqb b 0) start (cond (leb b start) (b - 1) b)
 
--- "12 NOTHING: no position wins at all", or the answer that the list gives
+-- 12, "no position wins at all", or the answer that the list gives
 unfoldable pub finished : ℕ → Table → List Position → ℕ → List ℕ → List ℕ → Solved
 finished K t ws rounds win con =
     judge (check Nothing 0 0 (eqb (length ws) 0) ∷ []) (unsolved win con) (answered K t (covered ws) ws rounds win con)

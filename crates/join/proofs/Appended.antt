@@ -74,7 +74,8 @@ module _ (n m kind : ℕ) where
       let rest = drop (suc i) rs in
       let split : rs ≡ take i rs ++ (r ∷ rest) =
       split-at rs i blank (omega (arith, records-count bytes)) ∙ ap (λ (s : Record). take i rs ++ (s ∷ rest)) (sym e) in
-      let around : ofKind kind rs ≡ ofKind kind (take i rs) ++ (r ∷ ofKind kind rest) = ap (ofKind kind) split ∙ ofKind-around kind (take i rs) r rest this in
+      let around : ofKind kind rs ≡ ofKind kind (take i rs) ++ (r ∷ ofKind kind rest) = ap (ofKind kind) split
+      ∙ ofKind-around kind (take i rs) r rest this in
       omega (
         arith,
         moved-length (take i rs),
@@ -87,7 +88,8 @@ module _ (n m kind : ℕ) where
 renumber-none : (r : Record) → renumber 0 0 r ≡ r
 unfolding renumber upward
 renumber-none r =
-    go (eqb (r .kind) controller) (eqb (r .kind) world) (eqb (r .kind) output) ∙ record-same (upward 0 0 r) r refl (zero-add (r .from)) refl (zero-add (r .to))
+    go (eqb (r .kind) controller) (eqb (r .kind) world) (eqb (r .kind) output)
+    ∙ record-same (upward 0 0 r) r refl (zero-add (r .from)) refl (zero-add (r .to))
   where
     go : (a b c : Bool) → cond a (upward 0 0 r) (cond b (upward 0 0 r) (cond c (upward 0 0 r) (upward 0 0 r))) ≡ upward 0 0 r
     go true b c = refl
@@ -96,7 +98,8 @@ renumber-none r =
     go false false false = refl
 
 -- of one kind: the first table's, and then the second's
-kind-bytes : (n m kind : ℕ) (rs ss : List Record) → bytesOf (ofKind kind (rs ++ map (renumber n m) ss)) ≡ movedBytes 0 0 kind rs ++ movedBytes n m kind ss
+kind-bytes : (n m kind : ℕ) (rs ss : List Record) → bytesOf (ofKind kind (rs ++ map (renumber n m) ss)) ≡ movedBytes 0 0 kind rs
+    ++ movedBytes n m kind ss
 kind-bytes n m kind rs ss =
     ap bytesOf (beside-kind kind n m rs ss)
     ∙ bytes-append (ofKind kind rs) (map (renumber n m) (ofKind kind ss))
@@ -126,8 +129,8 @@ module _ (zs : List Record) where
   kinds-within _ of-output = kinds-grow 4
   kinds-within _ of-input = omega arith
 
--- the bytes of two tables' records of the kinds before one, the second's renumbered: of one kind more, that they fit where all kinds do, and
--- that all kinds are the joined table
+-- the bytes of two tables' records of the kinds before one, the second's renumbered: of one kind more, that they fit where all kinds do,
+-- and that all kinds are the joined table
 abbrev pub joinedBefore : ℕ → ℕ → List Record → List Record → ℕ → List ℕ
 joinedBefore n m rs ss kind = bytesOf (kindsBefore kind (rs ++ map (renumber n m) ss))
 
@@ -141,7 +144,8 @@ module _ (n m : ℕ) (rs ss : List Record) (kind : ℕ) (k : Kind kind) where
       ∙ sym (append-assoc (bytesOf (kindsBefore kind zs)) (movedBytes 0 0 kind rs) (movedBytes n m kind ss))
 
   pub joined-room :
-      length (joinedBefore n m rs ss kind) + length (movedBytes 0 0 kind rs) + length (movedBytes n m kind ss) ≤ length (joinedBefore n m rs ss 5)
+      length (joinedBefore n m rs ss kind) + length (movedBytes 0 0 kind rs)
+      + length (movedBytes n m kind ss) ≤ length (joinedBefore n m rs ss 5)
   joined-room =
       let zs = rs ++ map (renumber n m) ss in
       omega (

@@ -12,7 +12,7 @@ use borrow.Author.Tests.{ltb-false}
 use Rattle.meaning.specs.declared.Refusal.{Refusal}
 use Rattle.meaning.specs.declared.Refusal.the-variants.{Letters, Size}
 use Rattle.meaning.specs.Records.{Record, recordsOf, at, blank, controller, world}
-use Rattle.meaning.specs.Table.{tableOf}
+use Rattle.meaning.specs.Table.{tableOf, stated}
 use Rattle.meaning.specs.Checks.{Check, check, judge, tableChecks, otherLetters, tooLarge, pairChecks, wrongLength}
 use Rattle.meaning.specs.Join.{joinedBytes}
 use Rattle.meaning.proofs.Tests.{neither-right}
@@ -25,13 +25,16 @@ use Rattle.meaning.proofs.Sound.{states-top, passes-sound, passes-first, passes
 use Rattle.meaning.proofs.JoinGood.{joined-length}
 use Rattle.table.specs.declared.Checked.the-variants as T
 use Rattle.table.specs.declared.Table.{Table}
-use Rattle.table.specs.Packed.{packed}
-use Rattle.table.specs.Checked.{checkedOf}
+use Rattle.table.specs.Packed.{packed, tableIn}
+use Rattle.table.specs.declared.Reading.{Reading}
+use Rattle.table.specs.Checked.{checkedOf, readingOf}
 use Rattle.table.proofs.Records.{records-count}
-use Rattle.table.proofs.Judged.{byChecked, judge-checked, passes-none-fails}
+use Rattle.table.proofs.Judged.{byChecked, judge-checked, passes-none-fails, reading-table}
+use Rattle.table.proofs.Good.{good-table}
 use Rattle.join.specs.declared.pair.Paired.{Paired}
 use Rattle.join.specs.declared.pair.Paired.the-variants.{Passes, Fails}
-use Rattle.join.specs.Joined.{pairedOf}
+use Rattle.join.specs.declared.pair.Readings.{Readings}
+use Rattle.join.specs.Joined.{pairedOf, readings, readingsOf, ReadBoth}
 
 -- one table's checks before others
 table-then : (which : ℕ) (bytes : List ℕ) (rest : List Check)
@@ -42,7 +45,8 @@ table-then which bytes rest =
 
 -- 13 and 14
 abbrev sizeChecks : List ℕ → List ℕ → List Check
-sizeChecks one two = otherLetters (tableOf (recordsOf one)) (tableOf (recordsOf two)) ∷ tooLarge (tableOf (recordsOf one)) (tableOf (recordsOf two)) ∷ []
+sizeChecks one two = otherLetters (tableOf (recordsOf one)) (tableOf (recordsOf two)) ∷ tooLarge (tableOf (recordsOf one))
+    (tableOf (recordsOf two)) ∷ []
 
 judged : (one two : List ℕ)
     → pairedOf (pairChecks one two)
@@ -54,12 +58,19 @@ judged one two =
     ∙ table-then 1 one (tableChecks 2 two ++ sizeChecks one two)
     ∙ ap (λ (rest : Paired). byChecked (λ r p. Fails r p 1) rest (checkedOf (tableChecks 0 one))) (table-then 2 two (sizeChecks one two))
 
+-- so the answer is put together from what the checks come to and the two tables as they were read
+pub readings-of : (one two : List ℕ) {p : Paired} {r s : Reading} {answer : Readings} → answer ≡ readings p r s
+    → r ≡ readingOf one → s ≡ readingOf two → pairedOf (pairChecks one two) ≡ p → answer ≡ readingsOf one two
+readings-of one two e r s p = e ∙ (λ i. readings (sym p i) (r i) (s i))
+
 -- a fault of the first table
-pub first-fails : (one two : List ℕ) {r : Refusal} {p : ℕ} → checkedOf (tableChecks 0 one) ≡ T.Fails r p → pairedOf (pairChecks one two) ≡ Fails r p 1
+pub first-fails : (one two : List ℕ) {r : Refusal} {p : ℕ} → checkedOf (tableChecks 0 one) ≡ T.Fails r p
+    → pairedOf (pairChecks one two) ≡ Fails r p 1
 first-fails one two e = rw (judged one two, e)
 
 -- of the second
-pub second-fails : (one two : List ℕ) {r : Refusal} {p : ℕ} → checkedOf (tableChecks 0 one) ≡ T.Passes → checkedOf (tableChecks 0 two) ≡ T.Fails r p
+pub second-fails : (one two : List ℕ) {r : Refusal} {p : ℕ} → checkedOf (tableChecks 0 one) ≡ T.Passes
+    → checkedOf (tableChecks 0 two) ≡ T.Fails r p
     → pairedOf (pairChecks one two) ≡ Fails r p 2
 second-fails one two first e = rw (judged one two, first, e)
 
@@ -129,7 +140,8 @@ few-states bytes t e p =
     )
 
 -- and each of its records is from and to a state below 8
-pub low-states : (bytes : List ℕ) (i : ℕ) (r : Record) → i < length bytes / 4 → r ≡ at (recordsOf bytes) i → checkedOf (tableChecks 0 bytes) ≡ T.Passes
+pub low-states : (bytes : List ℕ) (i : ℕ) (r : Record) → i < length bytes / 4 → r ≡ at (recordsOf bytes) i
+    → checkedOf (tableChecks 0 bytes) ≡ T.Passes
     → (r .from ≤ 7) × (r .to ≤ 7)
 low-states bytes i r h e p =
     let member = Memᴰ·cast e (member-at (recordsOf bytes) i blank (omega (arith, records-count bytes))) in
@@ -157,3 +169,24 @@ joinable one two e =
           ltb-false 4160 (length new)
           (neither-right ragged (ltb 4160 (length new)) (joined-length (recordsOf one) (recordsOf two) (passes-paired one two p)));
     }
+
+-- what two tables that were checked and read are known to be
+module _ (one two : List ℕ) {read : Readings} (both : ReadBoth one two read) where
+  pub read-passes : pairedOf (pairChecks one two) ≡ Passes
+  read-passes = sym (ap (λ (r : Readings). r .paired) (both .both-read)) ∙ both .both-pass
+
+  pub read-joinable : Joinable one two
+  read-joinable = joinable one two read-passes
+
+  pub read-first : read .first ≡ packed (tableOf (recordsOf one))
+  read-first = ap (λ (r : Readings). r .first) (both .both-read) ∙ reading-table one refl (read-joinable .first)
+
+  pub read-second : read .second ≡ packed (tableOf (recordsOf two))
+  read-second = ap (λ (r : Readings). r .second) (both .both-read) ∙ reading-table two refl (read-joinable .second)
+
+  -- so each is the table that its bytes state, and may be solved
+  pub first-stated : tableIn (read .first) ≡ stated one
+  first-stated = good-table 0 one (read .first) read-first (passes-none-fails 0 one (read-joinable .first))
+
+  pub second-stated : tableIn (read .second) ≡ stated two
+  second-stated = good-table 0 two (read .second) read-second (passes-none-fails 0 two (read-joinable .second))

@@ -1,5 +1,5 @@
--- All pairs of two lists, in eight counts: how many there are, those of one position more, and that they are the pairs of the positions that the lists
--- stand for. By the laws of appending, and count by count. Assumes nothing.
+-- All pairs of two lists, in eight counts: how many there are, those of one position more, and that they are the pairs of the positions
+-- that the lists stand for. By the laws of appending, and count by count. Assumes nothing.
 use mathlib.Core.Path.{_≡_, refl, sym, ap, ap₂, _∙_}
 use mathlib.Core.Bool.{Bool, true, false, cond}
 use mathlib.Core.List.{List, [], _∷_, _++_, map, flatMap, map-map, map-append, List·Memᴰ·head, List·Memᴰ·tail}
@@ -39,7 +39,8 @@ pub beside-wide : (n : ℕ) (F G : Position) → length F ≡ n → besideAt n (
 unfolding besideAt positionBytes
 beside-wide n F G e = tab-same 8 _ _ (λ q l. go q l (ltb q n) refl)
   where
-    go : (q : ℕ) → q < 8 → (b : Bool) → ltb q n ≡ b → cond b (count (positionBytes F) q) (count (positionBytes G) (q - n)) ≡ count (F ++ G) q
+    go : (q : ℕ) → q < 8 → (b : Bool) → ltb q n ≡ b
+        → cond b (count (positionBytes F) q) (count (positionBytes G) (q - n)) ≡ count (F ++ G) q
     go q l true t = wide-at F q l ∙ sym (List·getD-append F G 0 q (omega (arith, ltb-true q n t)))
     go q l false t =
         let place : length F + (q - n) ≡ q = omega (arith, ltb-false q n t) in

@@ -1,5 +1,5 @@
--- A stage before the last is passed where its rounds are not full: NOTHING is never given, since a position wins wherever there is an output. And a
--- refusal leaves the buffers as they were. Assumes nothing.
+-- A stage before the last is passed where its rounds are not full: NOTHING is never given, since a position wins wherever there is an
+-- output. And a refusal leaves the buffers as they were. Assumes nothing.
 use mathlib.Core.Path.{_≡_, ap}
 use mathlib.Core.List.{List}
 use Prim.Native.Nat.{ℕ, _<_}
@@ -23,7 +23,8 @@ use Rattle.game.proofs.Settled.{after-settled}
 module _ {K : ℕ} {t : Table} {X : Set} {N : ℕ} {out : List (List ℤ)} {settled : Settled} (h : Settles K t X N out settled) where
   module _ {r n : ℕ} (after : settled ≡ After r n) (first : FirstSet K t X) where
     -- a stage before the last is passed
-    pub stage-passed : {A : Type 0} → 0 < t .outputs → (which : ℕ) (refuse : Check → A) (grant : A) → judge (stageChecks which K N t X) refuse grant ≡ grant
+    pub stage-passed : {A : Type 0} → 0 < t .outputs → (which : ℕ) (refuse : Check → A) (grant : A)
+        → judge (stageChecks which K N t X) refuse grant ≡ grant
     unfolding stageChecks
     stage-passed output which refuse grant =
         rw (after-settled h after .0, ne-eqb (length (winners K t X)) 0 (λ e. omega (arith, some-winner K t X first output)))

@@ -1,7 +1,7 @@
--- By parts, stage by stage: what the call comes to by its checks in their order, and what each stage may take from two tables that pass. The joined table's
--- bytes pass again, it is the two side by side, and the pairs are a first set of it; so the rounds may begin at their list, which covers them, and a list of
--- winners alone is paired into it. Assumes nothing.
-use mathlib.Core.Path.{_≡_, sym, ap, ap₂, _∙_}
+-- By parts, stage by stage: what the call comes to by its checks in their order, and what each stage may take from two tables that pass.
+-- The joined table's bytes pass again, it is the two side by side, and the pairs are a first set of it; so the rounds may begin at their
+-- list, which covers them, and a list of winners alone is paired into it. Assumes nothing.
+use mathlib.Core.Path.{_≡_, sym, ap, _∙_}
 use mathlib.Core.Bool.{true}
 use mathlib.Core.List.{List, [], _∷_, _++_, map}
 use Prim.Native.Nat.{ℕ, _+_, _≤_, _<_}
@@ -46,7 +46,8 @@ use Rattle.join.proofs.Settles.{stage-passed}
 module _ (one two : List ℕ) (K N : ℕ) (win con : List ℕ) where
   -- 2, 3, the checks of the two tables, and then the stages in turn
   pub parts-judged : parts one two K N win con
-      ≡ judge (bound K ∷ room N win con ∷ []) (unsolved win con) (judge (pairChecks one two) (unsolved win con) (inTurn one two K N win con))
+      ≡ judge (bound K ∷ room N win con ∷ []) (unsolved win con)
+      (judge (pairChecks one two) (unsolved win con) (inTurn one two K N win con))
   unfolding parts partsChecks inTurn
   parts-judged =
       ap (judge (bound K ∷ room N win con ∷ []) (unsolved win con))
@@ -57,10 +58,12 @@ module _ (one two : List ℕ) (p : Passes (pairChecks one two)) where
   -- what is read of the joined table's bytes is the joined table
   pub joined-read : (t : T.Table) → t ≡ packed (tableOf (recordsOf (joinedBytes one two))) → tableIn t ≡ joinedTable one two
   joined-read t e =
-      good-table 0 (joinedBytes one two) t e (joined-passes one two p 0) ∙ ap tableOf (records-back (joined (recordsOf one) (recordsOf two)))
+      good-table 0 (joinedBytes one two) t e (joined-passes one two p 0)
+      ∙ ap tableOf (records-back (joined (recordsOf one) (recordsOf two)))
 
   pub joined-small : Small (joinedTable one two)
-  joined-small = rw (records-back (joined (recordsOf one) (recordsOf two))) at (passes-small 0 (joinedBytes one two) (joined-passes one two p 0))
+  joined-small = rw (records-back (joined (recordsOf one) (recordsOf two)))
+      at (passes-small 0 (joinedBytes one two) (joined-passes one two p 0))
 
   -- it may be solved
   pub joined-fit : Fit (joinedTable one two)
@@ -93,20 +96,25 @@ module _ (one two : List ℕ) (p : Passes (pairChecks one two)) where
 
       pub pairs-list : FirstList K (joinedTable one two) l
       pairs-list =
-          first-list K (joinedTable one two) joined-small (pairs K (stated one) (stated two)) pairs-begin l stands (joined-good one two p .some-output)
+          first-list K (joinedTable one two) joined-small (pairs K (stated one) (stated two)) pairs-begin l stands
+          (joined-good one two p .some-output)
 
     -- the lists of winners alone, paired, are the list of pairs
-    pub pairs-listed : (ones twos : List Position) → ones ≡ map positionBytes (winners K (stated one) (allSafe K (stated one .controllers)))
-        → twos ≡ map positionBytes (winners K (stated two) (allSafe K (stated two .controllers))) → FirstPairs one two K (allBeside (stated one .controllers) ones twos)
+    pub pairs-listed : (n : ℕ) (ones twos : List Position) → n ≡ stated one .controllers
+        → ones ≡ map positionBytes (winners K (stated one) (allSafe K (stated one .controllers)))
+        → twos ≡ map positionBytes (winners K (stated two) (allSafe K (stated two .controllers)))
+        → FirstPairs one two K (allBeside n ones twos)
     unfolding winners
-    pairs-listed ones twos e f =
+    pairs-listed n ones twos h e f =
         let t = stated one in
         let u = stated two in
-        ap₂ (allBeside (t .controllers)) e f
+        (λ i. allBeside (h i) (e i) (f i))
         ∙ all-wide (t .controllers) (winners K t (allSafe K (t .controllers))) (winners K u (allSafe K (u .controllers)))
-        (members-sized K (t .controllers) (winning K t (allSafe K (t .controllers))) (winning-safe K t (allSafe K (t .controllers)) (allSafe-first K t)))
+        (members-sized K (t .controllers) (winning K t (allSafe K (t .controllers)))
+        (winning-safe K t (allSafe K (t .controllers)) (allSafe-first K t)))
         ∙ ap (map positionBytes)
-        (sym (ap (λ (n : ℕ). maximalMembers K n (pairs K t u)) (controllers-sum t u (joinedTable one two) (joined-union one two p)) ∙ pairs-members K t u))
+        (sym (ap (λ (n : ℕ). maximalMembers K n (pairs K t u)) (controllers-sum t u (joinedTable one two) (joined-union one two p))
+        ∙ pairs-members K t u))
 
 -- the stages in turn: of each table alone, the first list of pairs, and the last
 module _ (one two : List ℕ) (K N : ℕ) (win con : List ℕ) where
@@ -139,7 +147,8 @@ module _ (one two : List ℕ) (K N : ℕ) (win con : List ℕ) where
         {twos : List (List ℤ)} {second : Settled} (other : Settles K (stated two) (allSafe K (stated two .controllers)) N twos second) where
       first-passed : inTurn one two K N win con
           ≡ judge (alone 2 two) (unsolved win con) (judge crowded (unsolved win con) (lastStage one two K N win con))
-      first-passed = stages-apart ∙ stage-passed settles after (allSafe-first K (stated one)) (first-output one two p) 1 (unsolved win con) _
+      first-passed = stages-apart ∙ stage-passed settles after (allSafe-first K (stated one)) (first-output one two p) 1
+          (unsolved win con) _
 
       pub second-full : second ≡ S.Full → inTurn one two K N win con ≡ unsolved win con (check Full 0 2 true)
       second-full e = first-passed ∙ stage-full other 2 (unsolved win con) _ e

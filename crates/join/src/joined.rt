@@ -1,5 +1,5 @@
 // The joined table: kind by kind, the first table's records and then the second's, renumbered.
-use table::read;
+use crate::pair::Readings;
 use table::record;
 use table::record::Record;
 ghost use mathlib.Core.Path.{_≡_};
@@ -9,12 +9,11 @@ ghost use lib.ListN.{length};
 ghost use Rattle.meaning.specs.Lists.{written};
 ghost use Rattle.meaning.specs.Records.{recordsOf, bytesOf};
 ghost use Rattle.meaning.specs.Join.{renumber as renumbered, upward as movedUpward, joinedBytes};
-ghost use Rattle.meaning.specs.Checks.{tableChecks, pairChecks};
+ghost use Rattle.meaning.specs.Checks.{tableChecks};
 ghost use Rattle.table.specs.declared.Checked.{Checked};
 ghost use Rattle.table.specs.Packed.{recordIn};
 ghost use Rattle.table.specs.Checked.{checkedOf};
-ghost use Rattle.join.specs.declared.pair.Paired.{Paired};
-ghost use Rattle.join.specs.Joined.{pairedOf, movedBytes, Stored};
+ghost use Rattle.join.specs.Joined.{ReadBoth, movedBytes, Stored};
 
 // How far the states of each side are renumbered upward.
 struct Sides {
@@ -23,13 +22,13 @@ struct Sides {
 }
 
 // Writes the joined table of two tables that pass, and answers the number of its bytes.
-pub fn write(first: &[u8], second: &[u8], out: &mut [u8]) -> usize
-    requires pass { ⌜ pairedOf (pairChecks (now first) (now second)) ≡ Paired.Passes ⌝ }
+pub fn write(read: Readings, first: &[u8], second: &[u8], out: &mut [u8]) -> usize
+    requires pass { ⌜ ReadBoth (now first) (now second) read ⌝ }
     requires room { ⌜ 4160 ≤ length (now out) ⌝ }
     ensures size { λ r. ⌜ r ≡ length (joinedBytes (now (first .entry)) (now (second .entry))) ⌝ }
     ensures bytes { λ r. ⌜ now (out .exit) ≡ written (joinedBytes (now (first .entry)) (now (second .entry))) (now (out .entry)) ⌝ }
 {
-    let table = read::read(first);
+    let table = read.first;
     let none = Sides {
         controllers: 0,
         worlds: 0,

@@ -21,15 +21,17 @@ pub fn join(first: &[u8], second: &[u8], out: &mut [u8]) -> Answer
     if out.len() < 4160 {
         return finish::refused(Refusal::Room, 0, 0);
     }
-    match pair::pair(first, second) {
-        Paired::Fails(refusal, place, which) => finish::refused(refusal, place, which),
-        Paired::Passes => Answer {
-            verdict: Verdict::Realizable(0),
-            place: joined::write(first, second, out),
-            which: 0,
-            rounds: 0,
-            winners: 0,
-        },
+    let read = pair::pair(first, second);
+    let paired = read.paired;
+    if let Paired::Fails(refusal, place, which) = paired {
+        return finish::refused(refusal, place, which);
+    }
+    Answer {
+        verdict: Verdict::Realizable(0),
+        place: joined::write(read, first, second, out),
+        which: 0,
+        rounds: 0,
+        winners: 0,
     }
 }
 
@@ -53,9 +55,10 @@ pub fn parts(
     if game::small_room(room, winners.len(), controller.len()) {
         return finish::refused(Refusal::Room, 0, 0);
     }
-    let paired = pair::pair(first, second);
+    let tables = pair::pair(first, second);
+    let paired = tables.paired;
     if let Paired::Fails(refusal, place, which) = paired {
         return finish::refused(refusal, place, which);
     }
-    stage::in_turn(first, second, k, room, winners, controller)
+    stage::in_turn(tables, first, second, k, room, winners, controller)
 }

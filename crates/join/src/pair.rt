@@ -1,10 +1,11 @@
 // The checks of two tables: 4 to 10 of the first, 4 to 10 of the second, 13 and 14.
 use meaning::Refusal;
 use table::Checked;
+use table::Reading;
+use table::Table;
 use table::checks;
 ghost use mathlib.Core.Path.{_≡_};
-ghost use Rattle.meaning.specs.Checks.{pairChecks};
-ghost use Rattle.join.specs.Joined.{pairedOf};
+ghost use Rattle.join.specs.Joined.{readings, readingsOf};
 
 // What they come to: the refusal of the first that fails, its place, and which: 1 or 2 for a fault
 // of that table, and 0 for 13 and 14.
@@ -13,27 +14,47 @@ pub enum Paired {
     Fails(Refusal, usize, usize),
 }
 
+// Two tables, checked and read in one go: each is there if it passes 4 to 10, and else none.
+pub struct Readings {
+    pub paired: Paired,
+    pub first: Table,
+    pub second: Table,
+}
+
 // The checks, in their order.
-pub fn pair(first: &[u8], second: &[u8]) -> Paired
-    ensures { λ r. ⌜ r ≡ pairedOf (pairChecks (now (first .entry)) (now (second .entry))) ⌝ }
+pub fn pair(first: &[u8], second: &[u8]) -> Readings
+    ensures { λ r. ⌜ r ≡ readingsOf (now (first .entry)) (now (second .entry)) ⌝ }
 {
-    let one_read = checks::check(first);
-    let one_checked = one_read.checked;
+    let one = checks::check(first);
+    let two = checks::check(second);
+    let one_checked = one.checked;
     if let Checked::Fails(refusal, place) = one_checked {
-        return Paired::Fails(refusal, place, 1);
+        return together(Paired::Fails(refusal, place, 1), one, two);
     }
-    let two_read = checks::check(second);
-    let two_checked = two_read.checked;
+    let two_checked = two.checked;
     if let Checked::Fails(refusal, place) = two_checked {
-        return Paired::Fails(refusal, place, 2);
+        return together(Paired::Fails(refusal, place, 2), one, two);
     }
-    let one = one_read.table;
-    let two = two_read.table;
-    if one.outputs != two.outputs || one.inputs != two.inputs {
-        return Paired::Fails(Refusal::Letters, 0, 0);
+    let a = one.table;
+    let b = two.table;
+    if a.outputs != b.outputs || a.inputs != b.inputs {
+        return together(Paired::Fails(Refusal::Letters, 0, 0), one, two);
     }
-    if 8 < one.controllers + two.controllers || 8 < one.worlds + two.worlds {
-        return Paired::Fails(Refusal::Size, 0, 0);
+    if 8 < a.controllers + b.controllers || 8 < a.worlds + b.worlds {
+        return together(Paired::Fails(Refusal::Size, 0, 0), one, two);
     }
-    Paired::Passes
+    together(Paired::Passes, one, two)
+}
+
+// What the checks come to, beside the tables.
+fn together(paired: Paired, one: Reading, two: Reading) -> Readings
+    ensures { λ r. ⌜ r ≡ readings paired one two ⌝ }
+{
+    let first = one.table;
+    let second = two.table;
+    Readings {
+        paired,
+        first,
+        second,
+    }
 }

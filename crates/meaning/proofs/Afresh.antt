@@ -1,6 +1,6 @@
--- By parts as afresh: from the pairs and from all safe positions the joined table comes to one winning set (Parts.antt), and the verdict, the
--- winning list and the rows depend on that set alone, whatever the buffers held. So do the results of two calls, where neither is full
--- (NotFull.antt).
+-- By parts as afresh: from the pairs and from all safe positions the joined table comes to one winning set (Parts.antt), and the verdict,
+-- the winning list and the rows depend on that set alone, whatever the buffers held. So do the results of two calls, where neither is
+-- full (NotFull.antt).
 use mathlib.Core.Path.{_≡_, refl, sym, ap, _∙_, subst, fun-ext}
 use mathlib.Core.Bool.{Bool, true, false, cond}
 use mathlib.Core.List.{List}
@@ -59,7 +59,8 @@ answered-same K t won ws r r′ win con win′ con′ =
     rows : (b : Bool) → codeOf (cond b (Realizable s) Unrealizable) ≡ 0 → (b ≡ true → s < length ws)
         → take n (cond b (written new con) con) ≡ take n (cond b (written new con′) con′)
     rows true z covered =
-        let size : length new ≡ n = rows-bytes (rowsFrom K t won ws s) ∙ ap (λ (m : ℕ). m * 4) (rows-from-number K t won ws s (covered refl)) in
+        let size : length new ≡ n = rows-bytes (rowsFrom K t won ws s)
+        ∙ ap (λ (m : ℕ). m * 4) (rows-from-number K t won ws s (covered refl)) in
         front-written new con n size ∙ sym (front-written new con′ n size)
     rows false z covered = absurd (omega arith)
 
@@ -69,7 +70,8 @@ solved-same : (K : ℕ) (t : Table) (X Y : Set) (win con win′ con′ : List �
 unfolding solvedFrom winners
 solved-same K t X Y win con win′ con′ e =
     subst
-    (λ (won : Set). SameResult t (solvedFrom K t X win con) (answered K t won (maximalMembers K (t .controllers) won) (rounds K t Y) win′ con′))
+    (λ (won : Set). SameResult t (solvedFrom K t X win con)
+    (answered K t won (maximalMembers K (t .controllers) won) (rounds K t Y) win′ con′))
     (fun-ext e) (answered-same K t (winning K t X) (winners K t X) (rounds K t X) (rounds K t Y) win con win′ con′)
 
 -- and 2 refuses alike

@@ -1,6 +1,6 @@
--- Joined the other way round, or with itself, a table's start position wins where it won before (Swap.antt), so the verdict is the same, whatever
--- the buffers and the room, where neither call is full (NotFull.antt); swapped, the rounds, the number of winners and FULL are the same too
--- (Widths.antt).
+-- Joined the other way round, or with itself, a table's start position wins where it won before (Swap.antt), so the verdict is the same,
+-- whatever the buffers and the room, where neither call is full (NotFull.antt); swapped, the rounds, the number of winners and FULL are
+-- the same too (Widths.antt).
 use mathlib.Core.Path.{_≡_, refl, sym, ap, _∙_}
 use mathlib.Core.Logic.{_↔_}
 use mathlib.Core.Bool.{Bool, true, false, cond}
@@ -47,7 +47,8 @@ start-code K t X win con first = rw won (go (winning K t X (startPosition K t)))
     won =
         let number = length (winners K t X) in
         let covered = start-covered K t X first in
-        same-test (ltb s number) (winning K t X (startPosition K t)) (λ l. covered .0 (ltb-true s number l)) (λ w. lt-ltb s number (covered .1 w))
+        same-test (ltb s number) (winning K t X (startPosition K t)) (λ l. covered .0 (ltb-true s number l))
+        (λ w. lt-ltb s number (covered .1 w))
 
     go : (b : Bool) → codeOf (cond b (Realizable s) Unrealizable) ≡ cond b 0 1
     go true = refl
@@ -92,13 +93,15 @@ module _ (K : ℕ) (t u whole other : Table) (un : Union t u whole) (on : Union 
       }
 
   -- 11 and 12 are
-  swap-checks : (N : ℕ) → stageChecks 0 K N whole (allSafe K (whole .controllers)) ≡ stageChecks 0 K N other (allSafe K (other .controllers))
+  swap-checks : (N : ℕ) → stageChecks 0 K N whole (allSafe K (whole .controllers))
+      ≡ stageChecks 0 K N other (allSafe K (other .controllers))
   unfolding stageChecks
   swap-checks N = rw (swap-full K t u whole other un on N, swap-winners K t u whole other un on)
 
 pub swap-answers : (one two : List ℕ) (K N M : ℕ) (win con win′ con′ : List ℕ) → Passes (pairChecks one two)
     → room N win con .failed ≡ false → room M win′ con′ .failed ≡ false
-    → (code (solve (joinedBytes one two) K N win con .answer) ≡ 11 → ⊥) → (code (solve (joinedBytes two one) K M win′ con′ .answer) ≡ 11 → ⊥)
+    → (code (solve (joinedBytes one two) K N win con .answer) ≡ 11 → ⊥)
+    → (code (solve (joinedBytes two one) K M win′ con′ .answer) ≡ 11 → ⊥)
     → SameNumbers (solve (joinedBytes one two) K N win con) (solve (joinedBytes two one) K M win′ con′)
 swap-answers one two K N M win con win′ con′ p room-here room-there spare spare′ =
     let q = pair-swapped one two p in
@@ -152,7 +155,11 @@ self-answers one K N M win con win′ con′ p room-here room-there spare spare�
     let good = sound-good (recordsOf one) (passes-paired one one p .first) in
     let start : winningSet K whole (startPosition K whole) ≡ winningSet K t (startPosition K t) =
     rw (start-append t t whole un K) (self-winning K t whole un (good .some-output) (startPosition K t) (start-length K t)) in
-    rw (joined-unless-full one one K N win con p room-here spare, solve-unless-full one K M win′ con′ (passes-first one one p 0) room-there spare′)
+    rw (
+      joined-unless-full one one K N win con p room-here spare,
+      solve-unless-full one K M win′ con′ (passes-first one one p 0)
+          room-there spare′,
+    )
     (judge-alike (λ (s : Solved). code (s .answer)) (bound K ∷ []) (unsolved win con) (unsolved win′ con′) (granted K whole win con)
     (granted K t win′ con′) (λ c. refl) (granted-code K whole t win con win′ con′ start))
 

@@ -1,6 +1,6 @@
--- Demand 1 for the three calls, from what holds of every list of checks (Checks.antt): each reason is given exactly if its check is the first to
--- fail, codes 0 and 1 exactly if none fails and the start position is covered or not, and a refusal leaves every buffer. Then what the checks of a
--- call that solves say part by part where all pass.
+-- Demand 1 for the three calls, from what holds of every list of checks (Checks.antt): each reason is given exactly if its check is the
+-- first to fail, codes 0 and 1 exactly if none fails and the start position is covered or not, and a refusal leaves every buffer. Then
+-- what the checks of a call that solves say part by part where all pass.
 use mathlib.Core.Path.{_≡_, refl, sym, ap, _∙_}
 use mathlib.Core.Logic.{_↔_}
 use mathlib.Core.Bool.{Bool, true, false, cond}
@@ -148,7 +148,8 @@ pub record PartsPasses (one two : List ℕ) (K N : ℕ) (win con : List ℕ) : T
   pub last-stage : Passes
       (stageChecks 0 K N (joinedTable one two) (pairs K (stated one) (stated two)))
 
-pub parts-passes : (one two : List ℕ) (K N : ℕ) (win con : List ℕ) → Passes (partsChecks one two K N win con) → PartsPasses one two K N win con
+pub parts-passes : (one two : List ℕ) (K N : ℕ) (win con : List ℕ) → Passes (partsChecks one two K N win con)
+    → PartsPasses one two K N win con
 unfolding partsChecks partsStages
 parts-passes one two K N win con p =
     let whole = joinedTable one two in

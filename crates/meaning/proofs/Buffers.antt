@@ -80,7 +80,8 @@ pub record Kept (inputs : ℕ) (win con : List ℕ) (s : Solved) : Type 0 where
   pub winners-stay : Stays (s .answer .winners * 8) win (s .winnersAfter)
   pub controller-stays : Stays (s .answer .winners * inputs * 4) con (s .controllerAfter)
 
-granted-kept : (K N : ℕ) (t : Table) (X : Set) (win con : List ℕ) → Fits K N t X win con → Kept (t .inputs) win con (solvedFrom K t X win con)
+granted-kept : (K N : ℕ) (t : Table) (X : Set) (win con : List ℕ) → Fits K N t X win con
+    → Kept (t .inputs) win con (solvedFrom K t X win con)
 unfolding room solvedFrom answered controllerRows
 granted-kept K N t X win con fits =
     let ws = winners K t X in
@@ -88,7 +89,8 @@ granted-kept K N t X win con fits =
     let none = eqb N 0 || ltb 256 N in
     let small = ltb (length win) (8 * N) in
     let smaller = ltb (length con) (32 * N) in
-    let wins : 8 * N ≤ length win = ltb-false (length win) (8 * N) (neither-right none small (neither-left (none || small) smaller (fits .roomy))) in
+    let wins : 8 * N ≤ length win =
+    ltb-false (length win) (8 * N) (neither-right none small (neither-left (none || small) smaller (fits .roomy))) in
     let cons : 32 * N ≤ length con = ltb-false (length con) (32 * N) (neither-right (none || small) smaller (fits .roomy)) in
     let number : length ws ≤ N = winners-number K N t X (fits .spare) in
     let rows : length ws * t .inputs ≤ N * 8 = mul-le-mul number (fits .few-inputs) in

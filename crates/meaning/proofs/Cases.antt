@@ -12,8 +12,10 @@ use Rattle.meaning.specs.Lists.{written}
 use Rattle.meaning.specs.Records.{recordsOf, bytesOf, limits, limit, outside, ascends, same, ofKind}
 use Rattle.meaning.specs.Table.{letters, markIn, startIn, markOf, startsOf, edgeOf, tableOf}
 use Rattle.meaning.specs.Counting.{plus, forward, safe, below, back, startPosition}
-use Rattle.meaning.specs.Rounds.{allSafe, setA, setB, setW, positions, maximal, maximalMembers, equal, rounds, winning, widthOfRound, full}
-use Rattle.meaning.specs.Written.{winners, positionBytes, winnersBytes, covering, afterRound, outputOf, startState, stateOrder, rowBytes}
+use Rattle.meaning.specs.Rounds.{allSafe, setA, setB, setW, positions, maximal, maximalMembers, equal, rounds, winning}
+use Rattle.meaning.specs.Rounds.{widthOfRound, full}
+use Rattle.meaning.specs.Written.{winners, positionBytes, winnersBytes, covering, afterRound, outputOf, startState, stateOrder}
+use Rattle.meaning.specs.Written.{rowBytes}
 use Rattle.meaning.specs.Written.{leadsBack, rowsOfState, rowsFrom, controllerRows}
 use Rattle.meaning.specs.Join.{byKind, upward, renumber, joined, pairs}
 use Rattle.meaning.specs.Answers.{refused, Solved, unsolved, solvedFrom, solve, join, parts, answered}
@@ -119,5 +121,10 @@ expected =
     ∷ []
 
 pub C1-to-C12 : map outcome calls ≡ expected
-unfolding flatMap recordsOf bytesOf limits limit outside ascends same ofKind letters markIn startIn markOf startsOf edgeOf tableOf plus forward safe below back startPosition allSafe setA setB setW positions equal rounds winning maximal maximalMembers widthOfRound full winners positionBytes winnersBytes covering afterRound leadsBack outputOf startState stateOrder rowBytes rowsOfState rowsFrom controllerRows byKind upward renumber joined pairs refused bound room roomToJoin wrongLength descent misnumbered noStart dangling total gap tableChecks stageChecks unsolved answered solvedFrom solveChecks solve otherLetters tooLarge pairChecks joinChecks join partsStages partsChecks parts outcome
+unfolding flatMap recordsOf bytesOf limits limit outside ascends same ofKind letters markIn startIn markOf startsOf edgeOf tableOf plus
+    forward safe below back startPosition allSafe setA setB setW positions equal rounds winning maximal maximalMembers widthOfRound full
+    winners positionBytes winnersBytes covering afterRound leadsBack outputOf startState stateOrder rowBytes rowsOfState rowsFrom
+    controllerRows byKind upward renumber joined pairs refused bound room roomToJoin wrongLength descent misnumbered noStart
+    dangling total gap tableChecks stageChecks unsolved answered solvedFrom solveChecks solve otherLetters tooLarge pairChecks
+    joinChecks join partsStages partsChecks parts outcome
 C1-to-C12 = refl

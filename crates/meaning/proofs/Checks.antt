@@ -1,5 +1,6 @@
--- Lists of checks, whatever the call: the outcome is that of the first check that fails, or what follows if none does. So each reason is given
--- exactly under its "when" and after those before it, and what no refusal changes is left by every refusal. By induction on the list.
+-- Lists of checks, whatever the call: the outcome is that of the first check that fails, or what follows if none does. So each reason is
+-- given exactly under its "when" and after those before it, and what no refusal changes is left by every refusal. By induction on the
+-- list.
 use mathlib.Core.Path.{_≡_, refl, sym, ap, _∙_}
 use mathlib.Core.Logic.{_↔_, _⊎_, inl, inr, ⊎-elim}
 use mathlib.Core.Bool.{Bool, true, false, cond, not}
@@ -71,14 +72,20 @@ judge-passes (c ∷ cs) refuse grant p =
     let rest = every (λ (d : Check). not (d .failed)) cs in
     rw (not-true (c .failed) (both-left (not (c .failed)) rest p)) (judge-passes cs refuse grant (both-right (not (c .failed)) rest p))
 
-pub judge-fails : {A : Type 0} (cs : List Check) (refuse : Check → A) (grant : A) (i : ℕ) (c : Check) → Fails cs i c → judge cs refuse grant ≡ refuse c
+pub judge-fails : {A : Type 0} (cs : List Check) (refuse : Check → A) (grant : A) (i : ℕ) (c : Check) → Fails cs i c
+    → judge cs refuse grant ≡ refuse c
 judge-fails [] refuse grant i c f = absurd (not-suc-le-zero (f .there .0))
 judge-fails (d ∷ cs) refuse grant zero c f =
     let e : d ≡ c = f .there .1 in rw (e, f .fails)
 judge-fails (d ∷ cs) refuse grant (suc i) c f =
     rw (f .earlier zero (suc-le-suc zero-le))
     (judge-fails cs refuse grant i c
-    (record { there = (le-of-suc-le-suc (f .there .0), f .there .1); fails = f .fails; earlier = λ j h. f .earlier (suc j) (suc-le-suc h) }))
+    (record {
+      there = (le-of-suc-le-suc (f .there .0), f .there .1);
+      fails = f .fails;
+      earlier =
+          λ j h. f .earlier (suc j) (suc-le-suc h);
+    }))
 
 -- two lists one after the other
 pub judge-append : {A : Type 0} (cs ds : List Check) (refuse : Check → A) (grant : A)

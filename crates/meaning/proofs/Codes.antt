@@ -1,5 +1,5 @@
--- The codes of document 01 tell verdicts apart, but for a controller's start: so what is proved of a verdict is proved of its code. What holds of
--- every refusal's number is tested on the list of refusals, in which each is found again by its number; numbers may be left out.
+-- The codes of document 01 tell verdicts apart, but for a controller's start: so what is proved of a verdict is proved of its code. What
+-- holds of every refusal's number is tested on the list of refusals, in which each is found again by its number; numbers may be left out.
 use mathlib.Core.Path.{_≡_, refl, sym, ap, _∙_, subst}
 use mathlib.Core.Logic.{_↔_}
 use mathlib.Core.Bool.{Bool, true}
@@ -12,7 +12,8 @@ use borrow.Author.Tests.{leb-true, ltb-true}
 use Rattle.meaning.specs.declared.Verdict.{Verdict}
 use Rattle.meaning.specs.declared.Verdict.the-variants.{Realizable, Unrealizable, Refused}
 use Rattle.meaning.specs.declared.Refusal.{Refusal}
-use Rattle.meaning.specs.declared.Refusal.the-variants.{Bound, Room, Length, Record as Recorded, Order, States, Start, Edge, Gap, Full, Nothing}
+use Rattle.meaning.specs.declared.Refusal.the-variants.{Bound, Room, Length, Record as Recorded, Order, States, Start, Edge, Gap}
+use Rattle.meaning.specs.declared.Refusal.the-variants.{Full, Nothing}
 use Rattle.meaning.specs.declared.Refusal.the-variants.{Letters, Size}
 use Rattle.meaning.specs.Lists.{every, place}
 use Rattle.meaning.specs.Answers.{numberOf, codeOf}
@@ -54,7 +55,8 @@ each-number : (test : ℕ → Bool) → test (numberOf Bound) ≡ true → every
 unfolding numbered
 each-number test first all r =
     subst (λ (s : Refusal). test (numberOf s) ≡ true) (again r)
-    (every-default (λ (s : Refusal). test (numberOf s)) refusals (place (λ (s : Refusal). eqb (numberOf s) (numberOf r)) refusals) Bound first all)
+    (every-default (λ (s : Refusal). test (numberOf s)) refusals (place (λ (s : Refusal). eqb (numberOf s) (numberOf r)) refusals) Bound
+    first all)
 
 -- the smallest is 2, and all are below 256
 pub number-least : (r : Refusal) → 2 ≤ numberOf r

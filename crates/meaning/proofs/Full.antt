@@ -1,7 +1,7 @@
--- FULL exactly. A stage passes the room if and only if some named set of some round up to the settled one has more maximal members than N: the
--- largest of the sets' numbers passes N exactly if one of them does. And a call that passes 2 to 10, 13 and 14 is refused as full exactly if a stage
--- of it, or the list of pairs, passes the room: no other reason is left, for NOTHING is never given for a good table, in which the position with -1
--- everywhere wins.
+-- FULL exactly. A stage passes the room if and only if some named set of some round up to the settled one has more maximal members than
+-- N: the largest of the sets' numbers passes N exactly if one of them does. And a call that passes 2 to 10, 13 and 14 is refused as full
+-- exactly if a stage of it, or the list of pairs, passes the room: no other reason is left, for NOTHING is never given for a good table,
+-- in which the position with -1 everywhere wins.
 use mathlib.Core.Path.{_≡_, refl, sym, ap, _∙_}
 use mathlib.Core.Logic.{_↔_, _⊎_, inl, inr, ⊎-elim}
 use mathlib.Core.Bool.{true, false, not}
@@ -108,7 +108,8 @@ pub full-before : (cs : List Check) {ds : List Check} {P : Type 0} → Passes cs
 full-before cs {ds} p only =
     record {
       fails = λ c m failed.
-          ⊎-elim (λ k. absurd (clash (c .failed) failed (passes-member cs p c k))) (λ k. only .fails c k failed) (List·Memᴰ·append-cases cs m);
+          ⊎-elim (λ k. absurd (clash (c .failed) failed (passes-member cs p c k))) (λ k. only .fails c k failed)
+          (List·Memᴰ·append-cases cs m);
       passes = λ q. only .passes (passes-right cs ds q);
     }
 
@@ -116,12 +117,14 @@ pub full-after : {cs : List Check} (ds : List Check) {P : Type 0} → Passes ds 
 full-after {cs} ds p only =
     record {
       fails = λ c m failed.
-          ⊎-elim (λ k. only .fails c k failed) (λ k. absurd (clash (c .failed) failed (passes-member ds p c k))) (List·Memᴰ·append-cases cs m);
+          ⊎-elim (λ k. only .fails c k failed) (λ k. absurd (clash (c .failed) failed (passes-member ds p c k)))
+          (List·Memᴰ·append-cases cs m);
       passes = λ q. only .passes (passes-left cs ds q);
     }
 
 -- a stage may give FULL alone: "no position wins at all" never holds where there is an output (`some-winner`)
-pub full-stage : (which K N : ℕ) (t : Table) (X : Set) → FirstSet K t X → 0 < t .outputs → FullOnly (stageChecks which K N t X) (Overfull K t X N)
+pub full-stage : (which K N : ℕ) (t : Table) (X : Set) → FirstSet K t X → 0 < t .outputs
+    → FullOnly (stageChecks which K N t X) (Overfull K t X N)
 unfolding stageChecks
 full-stage which K N t X first output =
     let number = length (winners K t X) in

@@ -1,6 +1,6 @@
--- What the game may take for granted of a table that passes checks 4 to 10: there are letters, every edge joins declared states and is of a
--- letter, and every state has an edge for each letter. And what check 10 says of a table: it leaves no gap exactly if there are letters and each
--- letter leads on from every state.
+-- What the game may take for granted of a table that passes checks 4 to 10: there are letters, every edge joins declared states and is of
+-- a letter, and every state has an edge for each letter. And what check 10 says of a table: it leaves no gap exactly if there are letters
+-- and each letter leads on from every state.
 use mathlib.Core.Path.{_≡_, refl}
 use mathlib.Core.Bool.{true, false, not, _||_}
 use Prim.Native.Nat.{ℕ, _<_}
@@ -36,8 +36,10 @@ leads-at t p =
     record {
       some-output = omega (arith, eqb-false (t .outputs) 0 (neither-left no-output no-input two));
       some-input = omega (arith, eqb-false (t .inputs) 0 (neither-right no-output no-input two));
-      on-output = each-at (t .outputs) (λ o. total (onOutput t o)) (not-false outputs (neither-right (no-output || no-input) (not outputs) three));
-      on-input = each-at (t .inputs) (λ i. total (onInput t i)) (not-false inputs (neither-right (no-output || no-input || not outputs) (not inputs) p));
+      on-output = each-at (t .outputs) (λ o. total (onOutput t o))
+          (not-false outputs (neither-right (no-output || no-input) (not outputs) three));
+      on-input = each-at (t .inputs) (λ i. total (onInput t i))
+          (not-false inputs (neither-right (no-output || no-input || not outputs) (not inputs) p));
     }
 
 pub leads-of : (t : Table) → Leads t → gap t ≡ false

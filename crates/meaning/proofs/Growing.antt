@@ -1,6 +1,7 @@
--- The order of records, as numbers: within the limits each byte after the kind is below 8, so that records compare as byte strings exactly as
--- their values compare, the kind counting 512, byte 1 64, byte 2 8 and byte 3 1. A table's records grow: their values strictly grow between
--- two bounds. So there are no more of them than numbers between the bounds, and lists that grow one after the other grow as a whole.
+-- The order of records, as numbers: within the limits each byte after the kind is below 8, so that records compare as byte strings
+-- exactly as their values compare, the kind counting 512, byte 1 64, byte 2 8 and byte 3 1. A table's records grow: their values strictly
+-- grow between two bounds. So there are no more of them than numbers between the bounds, and lists that grow one after the other grow as
+-- a whole.
 use mathlib.Core.Path.{_≡_, refl}
 use mathlib.Core.Logic.{⊎-elim}
 use mathlib.Core.Bool.{Bool, true}
@@ -66,7 +67,8 @@ growing-keep : (f : Record → Bool) (low high : ℕ) (rs : List Record) → Gro
 growing-keep f low high [] c = c
 growing-keep f low high (r ∷ rs) c =
     let rest = growing-keep f (suc (value r)) high rs (c .1) in
-    keep-one (f r) r (keep f rs) (λ l. Growing low l high) (λ _. (c .0, rest)) (λ _. growing-lower low (suc (value r)) high (keep f rs) (omega arith) rest)
+    keep-one (f r) r (keep f rs) (λ l. Growing low l high) (λ _. (c .0, rest))
+    (λ _. growing-lower low (suc (value r)) high (keep f rs) (omega arith) rest)
 
 pub growing-ofKind : (kind low high : ℕ) (rs : List Record) → Growing low rs high → Growing low (ofKind kind rs) high
 unfolding ofKind
@@ -93,18 +95,23 @@ growing-upper low high high′ (r ∷ rs) c h p =
 pub growing-within : (low high low′ high′ : ℕ) (rs : List Record) → Growing low rs high → low′ ≤ high′
     → ((r : Record) → List·Memᴰ r rs → (low′ ≤ value r) × (value r < high′)) → Growing low′ rs high′
 growing-within low high low′ high′ [] c h p = h
-growing-within low high low′ high′ (r ∷ rs) c h p =
-    (p r (List·Memᴰ·head refl) .0, growing-upper (suc (value r)) high high′ rs (c .1) (p r (List·Memᴰ·head refl) .1) (λ s m. p s (List·Memᴰ·tail m) .1))
+growing-within low high low′ high′ (r ∷ rs) c h p = (
+  p r (List·Memᴰ·head refl) .0,
+  growing-upper (suc (value r)) high high′ rs (c .1) (p r (List·Memᴰ·head refl) .1)
+      (λ s m. p s (List·Memᴰ·tail m) .1),
+)
 
 -- neighbours
-pub growing-at : (low high : ℕ) (rs : List Record) → Growing low rs high → (i : ℕ) → suc i < length rs → value (at rs i) < value (at rs (suc i))
+pub growing-at : (low high : ℕ) (rs : List Record) → Growing low rs high → (i : ℕ) → suc i < length rs
+    → value (at rs i) < value (at rs (suc i))
 growing-at low high [] c i h = absurd (omega arith)
 growing-at low high (r ∷ []) c i h = absurd (omega arith)
 growing-at low high (r ∷ s ∷ rs) c zero h = c .1 .0
 growing-at low high (r ∷ s ∷ rs) c (suc i) h = growing-at (suc (value r)) high (s ∷ rs) (c .1) i (omega arith)
 
 pub growing-of : (low high : ℕ) (rs : List Record) → low ≤ high → (0 < length rs → low ≤ value (at rs 0))
-    → ((r : Record) → List·Memᴰ r rs → value r < high) → ((i : ℕ) → suc i < length rs → value (at rs i) < value (at rs (suc i))) → Growing low rs high
+    → ((r : Record) → List·Memᴰ r rs → value r < high) → ((i : ℕ) → suc i < length rs → value (at rs i) < value (at rs (suc i)))
+    → Growing low rs high
 growing-of low high [] h first bound step = h
 growing-of low high (r ∷ rs) h first bound step = (
   first (omega arith),

@@ -1,6 +1,6 @@
--- What the call join writes for two tables that may be joined, and what may be joined on. It is not refused, its bytes are the joined records', and
--- they state the two tables side by side and pass 4 to 10 again: so the pair's checks pass with the tables swapped, and with a third table on
--- either side where the sizes allow.
+-- What the call join writes for two tables that may be joined, and what may be joined on. It is not refused, its bytes are the joined
+-- records', and they state the two tables side by side and pass 4 to 10 again: so the pair's checks pass with the tables swapped, and
+-- with a third table on either side where the sizes allow.
 use mathlib.Core.Path.{sym, subst⁻¹, _∙_, _≡_, ap}
 use mathlib.Core.Logic.{_↔_}
 use mathlib.Core.List.{List}
@@ -35,7 +35,8 @@ pub joined-union : (one two : List ℕ) → Passes (pairChecks one two) → Unio
 joined-union one two p = paired-union (recordsOf one) (recordsOf two) (passes-paired one two p)
 
 pub joined-good : (one two : List ℕ) → Passes (pairChecks one two) → Good (joinedTable one two)
-joined-good one two p = sound-good (joined (recordsOf one) (recordsOf two)) (joined-sound (recordsOf one) (recordsOf two) (passes-paired one two p))
+joined-good one two p = sound-good (joined (recordsOf one) (recordsOf two))
+    (joined-sound (recordsOf one) (recordsOf two) (passes-paired one two p))
 
 -- and its bytes pass 4 to 10
 pub joined-passes : (one two : List ℕ) → Passes (pairChecks one two) → (which : ℕ) → Passes (tableChecks which (joinedBytes one two))
@@ -113,7 +114,8 @@ module _ (a b c : List ℕ) (p : Passes (pairChecks a b)) (q : Passes (pairCheck
       (paired-after (recordsOf a) (recordsOf b) (recordsOf c) (passes-paired a b p) (passes-paired b c q) controllers worlds))
 
 -- by parts over winning as in demand 2: a pair is in the first set exactly if its halves win alone,
-pub pairs-win-alone : (one two : List ℕ) → Passes (pairChecks one two) → (K : ℕ) (F : Position) → length F ≡ joinedTable one two .controllers
+pub pairs-win-alone : (one two : List ℕ) → Passes (pairChecks one two) → (K : ℕ) (F : Position)
+    → length F ≡ joinedTable one two .controllers
     → (pairs K (stated one) (stated two) F ≡ true)
     ↔ (Wins K (stated one) (take (stated one .controllers) F) × Wins K (stated two) (drop (stated one .controllers) F))
 pairs-win-alone one two p K F e =
@@ -130,7 +132,8 @@ pairs-win-alone one two p K F e =
 
 -- and what wins in the joined table is such a pair
 pub wins-alone : (one two : List ℕ) → Passes (pairChecks one two) → (K : ℕ) (F : Position) → length F ≡ joinedTable one two .controllers
-    → Wins K (joinedTable one two) F → Wins K (stated one) (take (stated one .controllers) F) × Wins K (stated two) (drop (stated one .controllers) F)
+    → Wins K (joinedTable one two) F → Wins K (stated one) (take (stated one .controllers) F)
+    × Wins K (stated two) (drop (stated one .controllers) F)
 unfolding setW
 wins-alone one two p K F e w =
     let t = stated one in

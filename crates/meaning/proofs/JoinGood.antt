@@ -1,6 +1,6 @@
--- A join of two tables that pass passes 4 to 10 too. Its records stand among the states of both, so they are within the limits and declared;
--- kind by kind the first's grow below the second's, so they ascend, and there are at most 8 states on a side and 512 edges of a kind; its
--- states are numbered on; and side by side the two tables keep a start state and leave no gap.
+-- A join of two tables that pass passes 4 to 10 too. Its records stand among the states of both, so they are within the limits and
+-- declared; kind by kind the first's grow below the second's, so they ascend, and there are at most 8 states on a side and 512 edges of a
+-- kind; its states are numbered on; and side by side the two tables keep a start state and leave no gap.
 use mathlib.Core.Path.{_≡_, refl, ap, _∙_, subst, subst⁻¹}
 use mathlib.Core.Logic.{⊎-elim}
 use mathlib.Core.Bool.{true, false}
@@ -17,14 +17,17 @@ use Rattle.meaning.specs.Checks.{wrongLength, noStart, total, gap}
 use Rattle.meaning.proofs.Tests.{each-of, some-at, some-of, below-sum}
 use Rattle.meaning.proofs.Lists.{member-at}
 use Rattle.meaning.proofs.Good.{total-leads, leads-at, leads-of}
-use Rattle.meaning.proofs.Records.{Kind, of-controller, of-world, of-output, of-input, bytes-length, ofKind-member, ofKind-kind, Inside}
+use Rattle.meaning.proofs.Records.{Kind, of-controller, of-world, of-output, of-input, bytes-length, ofKind-member, ofKind-kind}
+use Rattle.meaning.proofs.Records.{Inside}
 use Rattle.meaning.proofs.Records.{inside-bytes}
 use Rattle.meaning.proofs.Sound.{Numbered, Sound, Paired}
 use Rattle.meaning.proofs.Union.{HalfUnion, Union, controllers-sum}
 use Rattle.meaning.proofs.Stands.{controllersOf, worldsOf, homeIn, awayIn, moveUp, Stands, home-few, stands-inside}
-use Rattle.meaning.proofs.Stands.{stands-declared, sound-stands, renumber-kind, renumber-from, renumber-letter, renumber-to, stands-first}
+use Rattle.meaning.proofs.Stands.{stands-declared, sound-stands, renumber-kind, renumber-from, renumber-letter, renumber-to}
+use Rattle.meaning.proofs.Stands.{stands-first}
 use Rattle.meaning.proofs.Stands.{stands-second}
-use Rattle.meaning.proofs.Growing.{value, value-range, below-ascends, Growing, growing-append, growing-length, growing-ofKind, growing-map}
+use Rattle.meaning.proofs.Growing.{value, value-range, below-ascends, Growing, growing-append, growing-length, growing-ofKind}
+use Rattle.meaning.proofs.Growing.{growing-map}
 use Rattle.meaning.proofs.Growing.{growing-within, growing-at, sound-growing}
 use Rattle.meaning.proofs.JoinKinds.{byKind-kind, beside-kind, joined-count, joined-cases, joined-second}
 use Rattle.meaning.proofs.JoinUnion.{joined-at-first, joined-at-second, paired-union}
@@ -94,7 +97,8 @@ module _ (rs ss : List Record) (pair : Paired rs ss) where
       (joined-stands r m)
 
   -- 7 STATES
-  joined-numbered : (kind : ℕ) → Kind kind → homeIn rs kind ≡ length (ofKind kind rs) → Numbered (ofKind kind rs) → Numbered (ofKind kind ss)
+  joined-numbered : (kind : ℕ) → Kind kind → homeIn rs kind ≡ length (ofKind kind rs) → Numbered (ofKind kind rs)
+      → Numbered (ofKind kind ss)
       → Numbered (ofKind kind (joined rs ss))
   joined-numbered kind k e first second =
       record {
@@ -123,7 +127,8 @@ module _ (rs ss : List Record) (pair : Paired rs ss) where
   unfolding tableOf
   second-growing kind k =
       let up = 64 * homeIn rs kind + awayIn rs kind in
-      let few = home-few 8 (controllersOf rs) (worldsOf rs) kind k (omega (arith, pair .controllers-few)) (omega (arith, pair .worlds-few)) in
+      let few = home-few 8 (controllersOf rs) (worldsOf rs) kind k (omega (arith, pair .controllers-few))
+      (omega (arith, pair .worlds-few)) in
       growing-within (up + 0) (up + 2560) (512 * kind + 64 * homeIn rs kind) (512 * suc kind) (map (moveUp rs) (ofKind kind ss))
       (growing-map (moveUp rs) up 0 2560 (ofKind kind ss) (λ s m.
       let of-kind = ofKind-kind kind ss s m in

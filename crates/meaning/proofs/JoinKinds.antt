@@ -3,7 +3,8 @@
 use mathlib.Core.Path.{_≡_, refl, ap, ap₂, _∙_, subst⁻¹}
 use mathlib.Core.Logic.{_⊎_, inl, inr, ⊎-elim}
 use mathlib.Core.Bool.{Bool, false}
-use mathlib.Core.List.{List, [], _++_, map, append-nil, List·Memᴰ, List·Memᴰ·append-cases, Memᴰ·append-left, Memᴰ·append-right, Memᴰ·map, Memᴰ·of-map}
+use mathlib.Core.List.{List, [], _++_, map, append-nil, List·Memᴰ, List·Memᴰ·append-cases, Memᴰ·append-left, Memᴰ·append-right, Memᴰ·map}
+use mathlib.Core.List.{Memᴰ·of-map}
 use Prim.Native.Nat.{ℕ, _+_}
 use lib.ListN.{length, length-append, length-map}
 use lib.Dec.{eqb}
@@ -72,8 +73,10 @@ byKind-of rs r k m =
     ofKind-member (r .kind) (byKind rs) r (subst⁻¹ (List·Memᴰ r) (byKind-kind (r .kind) k rs) (ofKind-of (r .kind) rs r m refl))
 
 -- of each kind: the first's and then the second's
-pub beside-kind : (kind n m : ℕ) (rs ss : List Record) → ofKind kind (rs ++ map (renumber n m) ss) ≡ ofKind kind rs ++ map (renumber n m) (ofKind kind ss)
-beside-kind kind n m rs ss = ofKind-append kind rs (map (renumber n m) ss) ∙ ap (λ (l : List Record). ofKind kind rs ++ l) (ofKind-renumber kind n m ss)
+pub beside-kind : (kind n m : ℕ) (rs ss : List Record)
+    → ofKind kind (rs ++ map (renumber n m) ss) ≡ ofKind kind rs ++ map (renumber n m) (ofKind kind ss)
+beside-kind kind n m rs ss = ofKind-append kind rs (map (renumber n m) ss)
+    ∙ ap (λ (l : List Record). ofKind kind rs ++ l) (ofKind-renumber kind n m ss)
 
 module _ (rs ss : List Record) where
   pub joined-kind : (kind : ℕ) → Kind kind → ofKind kind (joined rs ss) ≡ ofKind kind rs ++ map (moveUp rs) (ofKind kind ss)

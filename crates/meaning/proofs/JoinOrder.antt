@@ -1,6 +1,6 @@
--- The order of a join: its records are the same however it is grouped, and swapped they differ only in the states' numbers. Of each kind the
--- records are the first table's and then the second's renumbered; so grouping is associativity, and swapping moves the first table's states up
--- past the second's and the second's down.
+-- The order of a join: its records are the same however it is grouped, and swapped they differ only in the states' numbers. Of each kind
+-- the records are the first table's and then the second's renumbered; so grouping is associativity, and swapping moves the first table's
+-- states up past the second's and the second's down.
 use mathlib.Core.Path.{_≡_, refl, sym, ap, _∙_, fun-ext}
 use mathlib.Core.Logic.{_↔_, ⊎-elim}
 use mathlib.Core.List.{Memᴰ·of-map, Memᴰ·map, List, _++_, map, append-assoc, map-append, map-map, List·Memᴰ, Memᴰ·cast}
@@ -39,7 +39,8 @@ kind-grouped rs ss ts kind k =
 -- grouped anyhow
 pub joined-grouped : (rs ss ts : List Record) → joined (joined rs ss) ts ≡ joined rs (joined ss ts)
 unfolding joined
-joined-grouped rs ss ts = byKind-same (joined rs ss ++ map (moveUp (joined rs ss)) ts) (rs ++ map (moveUp rs) (joined ss ts)) (kind-grouped rs ss ts)
+joined-grouped rs ss ts = byKind-same (joined rs ss ++ map (moveUp (joined rs ss)) ts) (rs ++ map (moveUp rs) (joined ss ts))
+    (kind-grouped rs ss ts)
 
 across-first : (n m p : ℕ) → p < n → across n m p ≡ m + p
 unfolding across
@@ -107,7 +108,8 @@ record-swapped rs ss pair r m =
     (joined-cases rs ss r m)
 
 -- and swapped back it is itself
-record-swapped-back : (rs ss : List Record) → Paired rs ss → (r : Record) → List·Memᴰ r (joined rs ss) → swappedRecord ss rs (swappedRecord rs ss r) ≡ r
+record-swapped-back : (rs ss : List Record) → Paired rs ss → (r : Record) → List·Memᴰ r (joined rs ss)
+    → swappedRecord ss rs (swappedRecord rs ss r) ≡ r
 record-swapped-back rs ss pair r m =
     ⊎-elim (λ m. ap (swappedRecord ss rs) (swapped-first rs ss (pair .first) r m) ∙ swapped-second ss rs r)
     (λ found.

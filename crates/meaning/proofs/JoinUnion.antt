@@ -3,7 +3,8 @@
 use mathlib.Core.Path.{_≡_, refl, sym, ap, _∙_, subst, subst⁻¹}
 use mathlib.Core.Logic.{⊎-elim}
 use mathlib.Core.Bool.{false}
-use mathlib.Core.List.{List, _++_, map, List·Memᴰ, List·Memᴰ·append-cases, Memᴰ·append-left, Memᴰ·append-right, Memᴰ·map, Memᴰ·of-map, Memᴰ·cast}
+use mathlib.Core.List.{List, _++_, map, List·Memᴰ, List·Memᴰ·append-cases, Memᴰ·append-left, Memᴰ·append-right, Memᴰ·map, Memᴰ·of-map}
+use mathlib.Core.List.{Memᴰ·cast}
 use Prim.Native.Nat.{ℕ, _+_, _<_, max}
 use native.Mathlib.Omega.{arith}
 use lib.ListN.{length, List·getD-append}
@@ -13,7 +14,8 @@ use Rattle.meaning.specs.Table.{Half, letters, markIn, startIn, markOf, 
 use Rattle.meaning.specs.Join.{upward, renumber, joined, home, away}
 use Rattle.meaning.proofs.Tests.{refuted, same-test}
 use Rattle.meaning.proofs.Lists.{map-at, member-at}
-use Rattle.meaning.proofs.Records.{Kind, of-controller, of-world, of-output, of-input, record-same, edgeRecord, edge-member, member-edge}
+use Rattle.meaning.proofs.Records.{Kind, of-controller, of-world, of-output, of-input, record-same, edgeRecord, edge-member}
+use Rattle.meaning.proofs.Records.{member-edge}
 use Rattle.meaning.proofs.Records.{letters-above, letters-least, ofKind-kind}
 use Rattle.meaning.proofs.Sound.{Paired}
 use Rattle.meaning.proofs.Union.{HalfUnion, Union}
@@ -34,8 +36,10 @@ renumbered-was n m kind p l q s e =
 
 module _ (rs ss : List Record) where
   -- record number i of a kind
-  pub joined-at-first : (kind : ℕ) → Kind kind → (i : ℕ) → i < length (ofKind kind rs) → at (ofKind kind (joined rs ss)) i ≡ at (ofKind kind rs) i
-  joined-at-first kind k i h = rw (joined-kind rs ss kind k) (List·getD-append (ofKind kind rs) (map (moveUp rs) (ofKind kind ss)) blank i h)
+  pub joined-at-first : (kind : ℕ) → Kind kind → (i : ℕ) → i < length (ofKind kind rs)
+      → at (ofKind kind (joined rs ss)) i ≡ at (ofKind kind rs) i
+  joined-at-first kind k i h = rw (joined-kind rs ss kind k)
+      (List·getD-append (ofKind kind rs) (map (moveUp rs) (ofKind kind ss)) blank i h)
 
   pub joined-at-second : (kind : ℕ) → Kind kind → (i : ℕ) → i < length (ofKind kind ss)
       → at (ofKind kind (joined rs ss)) (length (ofKind kind rs) + i) ≡ moveUp rs (at (ofKind kind ss) i)
@@ -133,11 +137,19 @@ module _ (rs ss : List Record) (stands : Standing rs) (kind : ℕ) (k : Kind kin
 -- one letter's half of a round, by the kinds of its states and edges
 abbrev half : ℕ → ℕ → ℕ → ℕ → List Record → Half
 half source target kind letter rs =
-    record { sources = length (ofKind source rs); targets = length (ofKind target rs); edge = edgeOf kind rs letter; mark = markOf target rs }
+    record {
+      sources = length (ofKind source rs);
+      targets = length (ofKind target rs);
+      edge = edgeOf kind rs letter;
+      mark =
+          markOf target rs;
+    }
 
 half-union : (rs ss : List Record) → Standing rs → (source target kind : ℕ) → Kind source → Kind target → Kind kind
-    → ((n m : ℕ) → away n m target ≡ 0) → homeIn rs kind ≡ length (ofKind source rs) → awayIn rs kind ≡ length (ofKind target rs) → 0 < length (ofKind target rs)
-    → (letter : ℕ) → HalfUnion (half source target kind letter rs) (half source target kind letter ss) (half source target kind letter (joined rs ss))
+    → ((n m : ℕ) → away n m target ≡ 0) → homeIn rs kind ≡ length (ofKind source rs) → awayIn rs kind ≡ length (ofKind target rs)
+    → 0 < length (ofKind target rs)
+    → (letter : ℕ) → HalfUnion (half source target kind letter rs) (half source target kind letter ss)
+    (half source target kind letter (joined rs ss))
 unfolding markOf markIn
 half-union rs ss stands source target kind s t k still from to some letter =
     record {
@@ -165,6 +177,8 @@ paired-union rs ss pair =
       inputs-same = sym inputs;
       starts-first = λ p h. ap startIn (joined-at-first rs ss controller of-controller p h);
       starts-second = λ p h. joined-keeps rs ss startIn (λ q r. refl) controller of-controller (λ n m. refl) p h;
-      on-output = half-union rs ss stands controller world output of-controller of-world of-output (λ n m. refl) refl refl (pair .first .worlds .some-state);
-      on-input = half-union rs ss stands world controller input of-world of-controller of-input (λ n m. refl) refl refl (pair .first .controllers .some-state);
+      on-output = half-union rs ss stands controller world output of-controller of-world of-output (λ n m. refl) refl refl
+          (pair .first .worlds .some-state);
+      on-input = half-union rs ss stands world controller input of-world of-controller of-input (λ n m. refl) refl refl
+          (pair .first .controllers .some-state);
     }

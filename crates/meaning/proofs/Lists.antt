@@ -1,5 +1,5 @@
--- Laws of lists and of the words of specs/Lists.antt about them: what stands at a place of a tab, what a test over a list says of its members
--- and the other way round, what keep leaves, where place finds, and the members of a flatMap. By induction on the list.
+-- Laws of lists and of the words of specs/Lists.antt about them: what stands at a place of a tab, what a test over a list says of its
+-- members and the other way round, what keep leaves, where place finds, and the members of a flatMap. By induction on the list.
 use mathlib.Core.Path.{_≡_, refl, sym, ap, ap₂, _∙_}
 use mathlib.Core.Logic.{_⊎_, inl, inr, ⊎-elim}
 use mathlib.Core.Bool.{Bool, true, false, cond, _&&_, _||_, true≢false}
@@ -33,7 +33,8 @@ module _ {A : Type 0} where
   pub tab-same : (n : ℕ) (f g : ℕ → A) → ((i : ℕ) → i < n → f i ≡ g i) → tab n f ≡ tab n g
   tab-same zero f g p = refl
   tab-same (suc n) f g p =
-      ap₂ (λ (x : A) (xs : List A). x ∷ xs) (p zero (omega arith)) (tab-same n (λ i. f (suc i)) (λ i. g (suc i)) (λ i h. p (suc i) (suc-le-suc h)))
+      ap₂ (λ (x : A) (xs : List A). x ∷ xs) (p zero (omega arith))
+      (tab-same n (λ i. f (suc i)) (λ i. g (suc i)) (λ i h. p (suc i) (suc-le-suc h)))
 
   -- over the numbers below a sum: first those below n, then the others
   pub tab-sum : (n m : ℕ) (f g k : ℕ → A) → ((i : ℕ) → i < n → f i ≡ g i) → ((i : ℕ) → i < m → f (n + i) ≡ k i)
@@ -160,7 +161,8 @@ module _ {A : Type 0} where
   keep-append f [] ys = refl
   keep-append f (x ∷ xs) ys =
       keep-one (f x) x (keep f xs) (λ l. cond (f x) (x ∷ keep f (xs ++ ys)) (keep f (xs ++ ys)) ≡ l ++ keep f ys)
-      (λ p. ap {B = List A} (λ b. cond b (x ∷ keep f (xs ++ ys)) (keep f (xs ++ ys))) p ∙ ap {B = List A} (λ l. x ∷ l) (keep-append f xs ys))
+      (λ p. ap {B = List A} (λ b. cond b (x ∷ keep f (xs ++ ys)) (keep f (xs ++ ys))) p
+      ∙ ap {B = List A} (λ l. x ∷ l) (keep-append f xs ys))
       (λ p. ap {B = List A} (λ b. cond b (x ∷ keep f (xs ++ ys)) (keep f (xs ++ ys))) p ∙ keep-append f xs ys)
 
   pub keep-map : {B : Type 0} (f : B → Bool) (g : A → B) (xs : List A) → keep f (map g xs) ≡ map g (keep (λ x. f (g x)) xs)
@@ -198,7 +200,8 @@ module _ {A : Type 0} where
       cond-cases (f x) zero (suc (place f xs)) (λ r. i < r → f (getD (x ∷ xs) i d) ≡ false) (λ _ h. absurd (not-suc-le-zero h))
       (λ p h. go i p h (place-before f xs d))
     where
-      go : (i : ℕ) → f x ≡ false → i < suc (place f xs) → ((j : ℕ) → j < place f xs → f (getD xs j d) ≡ false) → f (getD (x ∷ xs) i d) ≡ false
+      go : (i : ℕ) → f x ≡ false → i < suc (place f xs) → ((j : ℕ) → j < place f xs → f (getD xs j d) ≡ false)
+          → f (getD (x ∷ xs) i d) ≡ false
       go zero p h rest = p
       go (suc i) p h rest = rest i (le-of-suc-le-suc h)
 
@@ -207,7 +210,8 @@ module _ {A : Type 0} where
   place-found f (x ∷ xs) d zero h p =
       cond-cases (f x) zero (suc (place f xs)) (λ r. r ≤ zero) (λ _. zero-le) (λ q. absurd (clash (f x) p q))
   place-found f (x ∷ xs) d (suc i) h p =
-      cond-cases (f x) zero (suc (place f xs)) (λ r. r ≤ suc i) (λ _. zero-le) (λ _. suc-le-suc (place-found f xs d i (le-of-suc-le-suc h) p))
+      cond-cases (f x) zero (suc (place f xs)) (λ r. r ≤ suc i) (λ _. zero-le)
+      (λ _. suc-le-suc (place-found f xs d i (le-of-suc-le-suc h) p))
 
   -- a test that has no place in a list holds of none of its members
   pub no-place : (f : A → Bool) (xs : List A) → ltb (place f xs) (length xs) ≡ false → (x : A) → List·Memᴰ x xs → f x ≡ false

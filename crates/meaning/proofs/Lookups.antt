@@ -18,7 +18,8 @@ use Rattle.meaning.specs.Written.{winners, covering, afterRound, outputO
 use Rattle.meaning.specs.Written.{rowsFrom}
 use Rattle.meaning.specs.Play.{row, rowOutput, rowNext}
 use Rattle.meaning.proofs.Tests.{both, both-left, both-right}
-use Rattle.meaning.proofs.Lists.{tab-length, tab-member, member-tab, keep-member, keep-of, keep-all, found-or-default, found, flatMap-member}
+use Rattle.meaning.proofs.Lists.{tab-length, tab-member, member-tab, keep-member, keep-of, keep-all, found-or-default, found}
+use Rattle.meaning.proofs.Lists.{flatMap-member}
 use Rattle.meaning.proofs.Lists.{member-flatMap}
 use Rattle.meaning.proofs.Maximal.{StartCovered}
 
@@ -110,7 +111,8 @@ module _ (K : ℕ) (t : Table) (X : Set) where
     pub output-found : (s : ℕ) → s < length (winners K t X) → 0 < t .inputs → rowOutput (controllerRows K t X) s ≡ outputAt K t X s
     unfolding rowOutput
     output-found s h l =
-        let at = found (λ (r : Row). eqb (r .state) s) (controllerRows K t X) (rowAt K t X s 0) noRow (row-member s 0 h l) (eq-eqb s s refl) in
+        let at = found (λ (r : Row). eqb (r .state) s) (controllerRows K t X) (rowAt K t X s 0) noRow (row-member s 0 h l)
+        (eq-eqb s s refl) in
         member-right _ (at .0) .outputs ∙ ap (outputAt K t X) (eqb-true _ s (at .1))
 
     pub next-found : (s i : ℕ) → s < length (winners K t X) → i < t .inputs → rowNext (controllerRows K t X) s i ≡ nextAt K t X s i
@@ -126,7 +128,8 @@ module _ (K : ℕ) (t : Table) (X : Set) where
 
     -- whatever the state, the output found is that of a winner, or 0 where no row fits
     pub some-output-found : (s : ℕ)
-        → ((w : ℕ) × (w < length (winners K t X)) × (rowOutput (controllerRows K t X) s ≡ outputAt K t X w)) ⊎ (rowOutput (controllerRows K t X) s ≡ 0)
+        → ((w : ℕ) × (w < length (winners K t X)) × (rowOutput (controllerRows K t X) s ≡ outputAt K t X w))
+        ⊎ (rowOutput (controllerRows K t X) s ≡ 0)
     unfolding rowOutput
     some-output-found s =
         ⊎-elim (λ m. let r = member-right _ m in inl (_, r .of-winner, r .outputs)) (λ (e : _). inr (ap (λ (r : Row). r .output) e))

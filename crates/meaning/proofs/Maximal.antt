@@ -24,7 +24,7 @@ use Rattle.meaning.proofs.Steps.{same-counts, below-at, below-of, below
 use Rattle.meaning.proofs.Positions.{allSafe-length, allSafe-safe, positions-hold, positions-ascend}
 use Rattle.meaning.proofs.Rounds.{winning-down, winning-safe, winning-nowhere}
 
--- "raised by one in any single count"
+-- a position with one count raised by one
 abbrev pub raise : Position → ℕ → Position
 raise F q = set F q (suc (count F q))
 
@@ -232,7 +232,8 @@ members-same K n X Y p = ap (maximalMembers K n) (fun-ext p)
 
 -- any ascending list of safe positions that holds the maximal members and nothing else is that list
 pub members-are : (K n : ℕ) (X : Set) → Within X (allSafe K n) → (l : List Position) → Ascending l
-    → ((F : Position) → List·Memᴰ F l → maximal K n X F ≡ true) → ((F : Position) → maximal K n X F ≡ true → List·Memᴰ F l) → l ≡ maximalMembers K n X
+    → ((F : Position) → List·Memᴰ F l → maximal K n X F ≡ true) → ((F : Position) → maximal K n X F ≡ true → List·Memᴰ F l)
+    → l ≡ maximalMembers K n X
 members-are K n X s l a p q =
     ascending-equal l (maximalMembers K n X) a (members-ascend K n X s) (λ F m. maximal-member K n X s F (p F m))
     (λ F m. q F (member-maximal K n X s F m))
@@ -246,7 +247,11 @@ winning-covered K t X first = covers K (t .controllers) (winning K t X) (winning
 -- and where there is an output there is one, since the position with -1 everywhere always wins
 pub some-winner : (K : ℕ) (t : Table) (X : Set) → FirstSet K t X → 0 < t .outputs → 0 < length (winners K t X)
 some-winner K t X first output =
-    omega (arith, winning-covered K t X first (nowhere (t .controllers)) (length-replicate (t .controllers) 0) .0 (winning-nowhere K t X first output))
+    omega (
+      arith,
+      winning-covered K t X first (nowhere (t .controllers)) (length-replicate (t .controllers) 0) .0
+          (winning-nowhere K t X first output),
+    )
 
 -- "the first winner that the start position is below" is there
 abbrev pub StartCovered : ℕ → Table → Set → Type 0

@@ -1,5 +1,5 @@
--- A call that solves good tables, with room that reason 3 accepts, is refused only by 2 or as FULL (Full.antt). So where it is not full it comes
--- to what 2 leaves of its last stage's outcome.
+-- A call that solves good tables, with room that reason 3 accepts, is refused only by 2 or as FULL (Full.antt). So where it is not full
+-- it comes to what 2 leaves of its last stage's outcome.
 use mathlib.Core.Path.{_≡_, ap, _∙_}
 use mathlib.Core.Logic.{_⊎_, inl, inr, ⊎-elim}
 use mathlib.Core.Bool.{true, false}
@@ -10,7 +10,8 @@ use Rattle.meaning.specs.Records.{recordsOf}
 use Rattle.meaning.specs.Table.{stated}
 use Rattle.meaning.specs.Rounds.{allSafe}
 use Rattle.meaning.specs.Join.{joined, joinedTable, joinedBytes, pairs}
-use Rattle.meaning.specs.Checks.{Check, judge, Passes, bound, room, tableChecks, stageChecks, solveChecks, pairChecks, partsStages, partsChecks}
+use Rattle.meaning.specs.Checks.{Check, judge, Passes, bound, room, tableChecks, stageChecks, solveChecks, pairChecks, partsStages}
+use Rattle.meaning.specs.Checks.{partsChecks}
 use Rattle.meaning.specs.Answers.{numberOf, refused, Solved, unsolved, solvedFrom, solve, parts}
 use Rattle.meaning.specs.Calls.{code}
 use Rattle.meaning.proofs.Tests.{decided}

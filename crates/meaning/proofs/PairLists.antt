@@ -1,6 +1,6 @@
--- The first list of pairs: its maximal members are the pairs of the two winning lists' members, the first list's order before the second's. A pair is
--- maximal exactly if both halves are, and pairs compare by their first halves first. Then what a loop that writes this list asks: how many pairs there
--- are, which pair stands at which place, and the eight counts of a pair.
+-- The first list of pairs: its maximal members are the pairs of the two winning lists' members, the first list's order before the
+-- second's. A pair is maximal exactly if both halves are, and pairs compare by their first halves first. Then what a loop that writes
+-- this list asks: how many pairs there are, which pair stands at which place, and the eight counts of a pair.
 use mathlib.Core.Path.{_≡_, refl, sym, ap, ap₂, _∙_}
 use mathlib.Core.Logic.{_⊎_, inl, inr}
 use mathlib.Core.Bool.{true, false, _&&_, true≢false}
@@ -38,7 +38,8 @@ beside Fs Gs = flatMap (λ (F : Position). map (λ (G : Position). F ++ G) Gs) F
 -- the members of this list
 pub beside-member : (Fs Gs : List Position) (F G : Position) → List·Memᴰ F Fs → List·Memᴰ G Gs → List·Memᴰ (F ++ G) (beside Fs Gs)
 unfolding beside
-beside-member Fs Gs F G f g = flatMap-member (λ (H : Position). map (λ (J : Position). H ++ J) Gs) Fs F (F ++ G) f (Memᴰ·map (λ (J : Position). F ++ J) g)
+beside-member Fs Gs F G f g = flatMap-member (λ (H : Position). map (λ (J : Position). H ++ J) Gs) Fs F (F ++ G) f
+    (Memᴰ·map (λ (J : Position). F ++ J) g)
 
 pub member-beside : (Fs Gs : List Position) (P : Position) → List·Memᴰ P (beside Fs Gs)
     → (F : Position) × (G : Position) × List·Memᴰ F Fs × List·Memᴰ G Gs × (F ++ G ≡ P)
@@ -99,7 +100,8 @@ module _ (K n m : ℕ) (X Y Z : Set) (safeX : Within X (allSafe K n)) (safeY : W
   pair-maximal : (F G : Position) → maximal K n X F ≡ true → maximal K m Y G ≡ true → maximal K (n + m) Z (F ++ G) ≡ true
   pair-maximal F G x y =
       top-maximal K (n + m) Z safeZ (F ++ G) (pair-in F G first (maximal-holds K m Y safeY G y))
-      (λ P z b. side-by-side n m (λ P. Z P ≡ true → below (F ++ G) P ≡ true → F ++ G ≡ P) top P (allSafe-length K (n + m) P (safeZ P z)) z b)
+      (λ P z b. side-by-side n m (λ P. Z P ≡ true → below (F ++ G) P ≡ true → F ++ G ≡ P) top P (allSafe-length K (n + m) P (safeZ P z)) z
+      b)
     where
       first : X F ≡ true
       first = maximal-holds K n X safeX F x
@@ -138,7 +140,8 @@ module _ (K n m : ℕ) (X Y Z : Set) (safeX : Within X (allSafe K n)) (safeY : W
   pub members-beside : maximalMembers K (n + m) Z ≡ beside (maximalMembers K n X) (maximalMembers K m Y)
   members-beside =
       sym (members-are K (n + m) Z safeZ (beside Fs Gs)
-      (beside-ascends n Fs Gs (λ F f. sizeX F (member-in K n X safeX F f)) (members-ascend K n X safeX) (members-ascend K m Y safeY)) listed held)
+      (beside-ascends n Fs Gs (λ F f. sizeX F (member-in K n X safeX F f)) (members-ascend K n X safeX) (members-ascend K m Y safeY))
+      listed held)
     where
       Fs : List Position
       Fs = maximalMembers K n X
@@ -180,7 +183,8 @@ beside-at (F ∷ Fs) Gs zero j h l =
     ∙ map-at (λ (G : Position). F ++ G) Gs j [] [] l)
 beside-at (F ∷ Fs) Gs (suc i) j h l =
     let row = map (λ (G : Position). F ++ G) Gs in
-    let place : suc i * length Gs + j ≡ length row + (i * length Gs + j) = rw suc-mul (omega (arith, length-map Gs (λ (G : Position). F ++ G))) in
+    let place : suc i * length Gs + j ≡ length row + (i * length Gs + j) =
+    rw suc-mul (omega (arith, length-map Gs (λ (G : Position). F ++ G))) in
     rw place (getD-append-add row (beside Fs Gs) (i * length Gs + j) [])
     ∙ beside-at Fs Gs i j (le-of-suc-le-suc h) l
 
@@ -196,4 +200,5 @@ module _ (n m : ℕ) (F G : Position) (sizeF : length F ≡ n) (sizeG : length G
       go (yes l) =
           let place : q ≡ length F + (q - n) = omega arith in
           bytes-at (F ++ G) q l ∙ ap (count (F ++ G)) place ∙ getD-append-add F G (q - n) 0
-      go (no l) = count-beyond (positionBytes (F ++ G)) q (omega (arith, position-bytes (F ++ G))) ∙ sym (count-beyond G (q - n) (omega arith))
+      go (no l) = count-beyond (positionBytes (F ++ G)) q (omega (arith, position-bytes (F ++ G)))
+          ∙ sym (count-beyond G (q - n) (omega arith))

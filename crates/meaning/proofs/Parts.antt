@@ -40,7 +40,8 @@ module _ (K : ℕ) (t u : Table) where
       pairs-of F
       (winning-down K t (allSafe K n) (allSafe-first K t) (take n F) (take n G) (omega (arith, length-take n F, length-take n G))
       (halves .0) (pairs-take G w))
-      (winning-down K u (allSafe K (u .controllers)) (allSafe-first K u) (drop n F) (drop n G) (omega (arith, length-drop n F, length-drop n G))
+      (winning-down K u (allSafe K (u .controllers)) (allSafe-first K u) (drop n F) (drop n G)
+      (omega (arith, length-drop n F, length-drop n G))
       (halves .1) (pairs-drop G w))
 
   pub pairs-safe : Within (pairs K t u) (allSafe K (t .controllers + u .controllers))
@@ -70,13 +71,16 @@ module _ (t u whole : Table) (un : Union t u whole) where
         safe = λ F w. rw (controllers-sum t u whole un) (pairs-safe K t u F w);
         shrinks = λ F w.
             pairs-of K t u F
-            (follows-fixed K whole t (take (t .controllers)) (take (t .worlds)) (first-follows t u whole un K) o (pairs K t u) (pairs-take K t u) F w)
-            (follows-fixed K whole u (drop (t .controllers)) (drop (t .worlds)) (second-follows t u whole un K) o′ (pairs K t u) (pairs-drop K t u) F w);
+            (follows-fixed K whole t (take (t .controllers)) (take (t .worlds)) (first-follows t u whole un K) o (pairs K t u)
+            (pairs-take K t u) F w)
+            (follows-fixed K whole u (drop (t .controllers)) (drop (t .worlds)) (second-follows t u whole un K) o′ (pairs K t u)
+            (pairs-drop K t u) F w);
         nowhere = rw (controllers-sum t u whole un) (pairs-nowhere K t u o o′);
       }
 
   -- by parts loses nothing: from the pairs the rounds come to the same winning set as from all safe positions
-  pub pairs-winning : (K : ℕ) → 0 < t .outputs → (F : Position) → winning K whole (pairs K t u) F ≡ winning K whole (allSafe K (whole .controllers)) F
+  pub pairs-winning : (K : ℕ) → 0 < t .outputs → (F : Position)
+      → winning K whole (pairs K t u) F ≡ winning K whole (allSafe K (whole .controllers)) F
   pairs-winning K o F =
       let o′ : 0 < whole .outputs = omega (arith, un .outputs) in
       let stays : (X : Set) → FirstSet K whole X → Within (winning K whole X) (setB K whole (winning K whole X) (whole .outputs)) =

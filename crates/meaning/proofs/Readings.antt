@@ -1,5 +1,5 @@
--- Reading back what a call wrote: winner number i from the winners' bytes, and the rows from the controller's bytes. Each winner takes 8 bytes, so
--- number i begins at byte 8 i; its first bytes are its counts.
+-- Reading back what a call wrote: winner number i from the winners' bytes, and the rows from the controller's bytes. Each winner takes 8
+-- bytes, so number i begins at byte 8 i; its first bytes are its counts.
 use mathlib.Core.Path.{_≡_, ap, _∙_}
 use mathlib.Core.List.{List, [], _∷_, _++_, flatMap, append-assoc}
 use Prim.Native.Nat.{ℕ, zero, suc, _+_, _*_, _≤_, _<_}

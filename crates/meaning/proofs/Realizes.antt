@@ -1,5 +1,6 @@
--- Demand 2's words for the start: a strategy that keeps every run from a start state to K is one that wins from the start position. A start state's
--- count there is 0, so a run may add K; half a round further adds no more than the whole round that every good table lets follow it.
+-- Demand 2's words for the start: a strategy that keeps every run from a start state to K is one that wins from the start position. A
+-- start state's count there is 0, so a run may add K; half a round further adds no more than the whole round that every good table lets
+-- follow it.
 use mathlib.Core.Path.{_≡_, ap, _∙_}
 use mathlib.Core.Logic.{Iff·symm, _↔_}
 use mathlib.Core.Bool.{true, cond}
@@ -58,7 +59,8 @@ pub start-covered : (K : ℕ) (t : Table) (X : Set) → FirstSet K t X → Start
 unfolding startState
 start-covered K t X first = Iff·symm (winning-covered K t X first (startPosition K t) (start-length K t))
 
-pub keeps-realizes : (K : ℕ) (rs : List Record) (σ : Strategy) → Legal (tableOf rs) σ → Keeps K (tableOf rs) (startPosition K (tableOf rs)) σ
+pub keeps-realizes : (K : ℕ) (rs : List Record) (σ : Strategy) → Legal (tableOf rs) σ
+    → Keeps K (tableOf rs) (startPosition K (tableOf rs)) σ
     → Realizes K (tableOf rs) σ
 keeps-realizes K rs σ l k =
     record { legal = l; keeps = λ p s run. let one = start-count K rs p s in omega (arith, k .whole p (omega arith) run) }

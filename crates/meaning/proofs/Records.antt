@@ -1,6 +1,6 @@
--- Laws of records: they come back from their bytes, each has one of four kinds, the records of a kind are the members of that kind, an edge of a
--- table is a record of its list, the number of letters is the least above every letter of a kind, and a record that is not outside the table of
--- limits has every byte within them.
+-- Laws of records: they come back from their bytes, each has one of four kinds, the records of a kind are the members of that kind, an
+-- edge of a table is a record of its list, the number of letters is the least above every letter of a kind, and a record that is not
+-- outside the table of limits has every byte within them.
 use mathlib.Core.Path.{_≡_, refl, ap}
 use mathlib.Core.Bool.{true, false, _&&_, _||_}
 use mathlib.Core.List.{List, [], _∷_, flatMap, List·Memᴰ, Memᴰ·cast}
@@ -10,7 +10,8 @@ use lib.ListN.{length, getD}
 use lib.Dec.{eqb, leb, ltb}
 use borrow.Author.Tests.{eqb-true, eq-eqb, ltb-false, le-ltb, leb-true}
 use Rattle.meaning.specs.Lists.{every}
-use Rattle.meaning.specs.Records.{Record, recordsOf, bytesOf, blank, at, controller, world, output, input, limits, limit, outside, same, ofKind}
+use Rattle.meaning.specs.Records.{Record, recordsOf, bytesOf, blank, at, controller, world, output, input, limits, limit, outside}
+use Rattle.meaning.specs.Records.{same, ofKind}
 use Rattle.meaning.specs.Table.{letters, edgeOf}
 use Rattle.meaning.proofs.Tests.{both-left, both-right, neither-left, neither-right, largest-at, largest-of}
 use Rattle.meaning.proofs.Lists.{member-at, at-member, any-at, any-of, keep-member, keep-holds, keep-of}
@@ -57,7 +58,12 @@ same-equal r s p =
 pub same-self : (r : Record) → same r r ≡ true
 unfolding same
 same-self r =
-    rw (eq-eqb (r .kind) (r .kind) refl, eq-eqb (r .from) (r .from) refl, eq-eqb (r .letter) (r .letter) refl, eq-eqb (r .to) (r .to) refl) refl
+    rw (
+      eq-eqb (r .kind) (r .kind) refl,
+      eq-eqb (r .from) (r .from) refl,
+      eq-eqb (r .letter) (r .letter) refl,
+      eq-eqb (r .to) (r .to) refl,
+    ) refl
 
 -- records come back from their bytes, four for each
 pub records-back : (rs : List Record) → recordsOf (bytesOf rs) ≡ rs
@@ -87,14 +93,16 @@ ofKind-of kind rs r m e = keep-of (λ (s : Record). eqb (s .kind) kind) rs r m (
 abbrev pub edgeRecord : ℕ → ℕ → ℕ → ℕ → Record
 edgeRecord kind letter p q = record { kind = kind; from = p; letter = letter; to = q }
 
-pub edge-member : (kind : ℕ) (rs : List Record) (letter p q : ℕ) → edgeOf kind rs letter p q ≡ true → List·Memᴰ (edgeRecord kind letter p q) rs
+pub edge-member : (kind : ℕ) (rs : List Record) (letter p q : ℕ) → edgeOf kind rs letter p q ≡ true
+    → List·Memᴰ (edgeRecord kind letter p q) rs
 unfolding edgeOf
 edge-member kind rs letter p q e =
     let r = edgeRecord kind letter p q in
     let found = any-at (same r) rs e in
     Memᴰ·cast (same-equal r (found .0) (found .2)) (found .1)
 
-pub member-edge : (kind : ℕ) (rs : List Record) (letter p q : ℕ) → List·Memᴰ (edgeRecord kind letter p q) rs → edgeOf kind rs letter p q ≡ true
+pub member-edge : (kind : ℕ) (rs : List Record) (letter p q : ℕ) → List·Memᴰ (edgeRecord kind letter p q) rs
+    → edgeOf kind rs letter p q ≡ true
 unfolding edgeOf
 member-edge kind rs letter p q m = let r = edgeRecord kind letter p q in any-of (same r) rs r m (same-self r)
 
@@ -107,7 +115,8 @@ letters-above kind rs r m =
     let e : at es (place .0) .letter ≡ r .letter = ap {B = ℕ} (λ (s : Record). s .letter) (place .2) in
     omega (arith, largest-at (length es) (λ i. suc (at es i .letter)) (place .0) (place .1))
 
-pub letters-least : (kind : ℕ) (rs : List Record) (b : ℕ) → ((r : Record) → List·Memᴰ r (ofKind kind rs) → r .letter < b) → letters kind rs ≤ b
+pub letters-least : (kind : ℕ) (rs : List Record) (b : ℕ) → ((r : Record) → List·Memᴰ r (ofKind kind rs) → r .letter < b)
+    → letters kind rs ≤ b
 unfolding letters
 letters-least kind rs b p =
     let es = ofKind kind rs in

@@ -1,6 +1,6 @@
 -- The controller's rows: read back from their bytes and followed from a state they choose letters of the table and keep every run from
--- that state's winner to K. The winner of the state reached guards the runs (`Guards` of Winning.antt): its output leads back into the winning set
--- on every input, so it and the position half way are safe, and the next state's winner is over the position after the round.
+-- that state's winner to K. The winner of the state reached guards the runs (`Guards` of Winning.antt): its output leads back into the
+-- winning set on every input, so it and the position half way are safe, and the next state's winner is over the position after the round.
 use mathlib.Core.Path.{_≡_, refl, sym, ap, _∙_}
 use mathlib.Core.Logic.{⊎-elim}
 use mathlib.Core.Bool.{true}

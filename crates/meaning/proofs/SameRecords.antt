@@ -1,5 +1,5 @@
--- Two good tables with the same records have the same bytes: records that ascend are ascending as byte strings, two ascending lists with the same
--- members are equal, and a table's bytes are those of its records. So what is said of a table's records alone fixes its bytes.
+-- Two good tables with the same records have the same bytes: records that ascend are ascending as byte strings, two ascending lists with
+-- the same members are equal, and a table's bytes are those of its records. So what is said of a table's records alone fixes its bytes.
 use mathlib.Core.Path.{_≡_, refl, sym, ap, _∙_}
 use mathlib.Core.Logic.{_↔_, ⊎-elim}
 use mathlib.Core.Bool.{true, not, _||_}
@@ -42,7 +42,8 @@ ascends-before r s p =
     (ordered-cases (r .kind) (s .kind) _ p)
 
 -- so records each of which ascends to the next ascend as byte strings
-records-ascending : (rs : List Record) → ((i : ℕ) → suc i < length rs → ascends (at rs i) (at rs (suc i)) ≡ true) → Ascending (map fourOf rs)
+records-ascending : (rs : List Record) → ((i : ℕ) → suc i < length rs → ascends (at rs i) (at rs (suc i)) ≡ true)
+    → Ascending (map fourOf rs)
 records-ascending [] p = none
 records-ascending (r ∷ []) p = more (λ y m. absurd (List·Memᴰ·not-nil m)) none
 records-ascending (r ∷ s ∷ rs) p = go (records-ascending (s ∷ rs) (λ i h. p (suc i) (suc-le-suc h)))
@@ -79,7 +80,8 @@ pub same-bytes : (one two : List ℕ) → Passes (tableChecks 0 one) → Passes 
 same-bytes one two p q same =
     let rs = recordsOf one in
     let ss = recordsOf two in
-    let along : (rs ss : List Record) → ((r : Record) → List·Memᴰ r rs → List·Memᴰ r ss) → (x : List ℕ) → List·Memᴰ x (map fourOf rs) → List·Memᴰ x (map fourOf ss) =
+    let along : (rs ss : List Record) → ((r : Record) → List·Memᴰ r rs → List·Memᴰ r ss) → (x : List ℕ) → List·Memᴰ x (map fourOf rs)
+    → List·Memᴰ x (map fourOf ss) =
     λ rs ss f x m. let found = Memᴰ·of-map fourOf rs m in Memᴰ·cast (sym (found .2)) (Memᴰ·map fourOf (f (found .0) (found .1))) in
     let fours =
     ascending-equal (map fourOf rs) (map fourOf ss) (records-ascending rs (passes-sound 0 one p .ascending))

@@ -1,53 +1,95 @@
--- The counts in ℕ, one higher than the paper's, agree with the paper's signed ones. Both steps of one count are written here over ℤ as the
--- paper has them, and `oneHigher` takes each to the step that forward and back make in ℕ. Then the ends by name: -1 stays -1 going
--- forward, K + 1 is reached and seen, and the step back floors at -1.
-use mathlib.Core.Path.{_≡_, refl}
-use mathlib.Core.Bool.{Bool, true, false, cond}
-use Prim.Native.Nat.{ℕ, zero, suc, _+_, _-_, _<_, min}
+-- The paper's signed counts, read one higher (`oneHigher`), are the counts of the definitions: the lesser and the greater of two
+-- (`lesser-signed`, `greater-signed`), a run that enters a state (`plus-signed`), the step back (`less-signed`) and a winners' byte
+-- (`lower-signed`). By cases on the signs. Then the ends by name: -1 stays -1 going forward, K + 1 is reached and seen, and the step
+-- back floors at -1.
+use mathlib.Core.Path.{_≡_, refl, sym, ap, _∙_}
+use mathlib.Core.Bool.{true, false, true≢false}
+use Prim.Native.Nat.{ℕ, zero, suc, _+_, _-_, _≤_, _<_, min, max, zero-le}
+use native.Mathlib.Nat.{not-suc-le-zero}
+use native.Mathlib.Decide.{decLt}
 use native.Mathlib.Omega.{arith}
-use lib.IntN.{ℤ, pos, negsuc, subℕ, _-ℤ_}
+use lib.IntN.{ℤ, pos, negsuc, natAbs, _-ℤ_, +ℤ-idr}
 use lib.Dec.{ltb}
-use borrow.Author.Tests.{ltb-true, ltb-false}
+use lib.Signed.{ltZ}
+use borrow.Author.Tests.{ltb-true, ltb-false, lt-ltb, le-ltb}
 use Rattle.meaning.specs.Table.{Half}
 use Rattle.meaning.specs.Counting.{oneHigher, Position, count, plus, forward, safe}
-use Rattle.meaning.proofs.Tests.{refuted}
+use Rattle.meaning.specs.Signed.{noRun, minZ, maxZ, plusSigned, lessSigned, oneLower}
+use Rattle.meaning.proofs.Tests.{cond-cases, refuted}
 use Rattle.meaning.proofs.Steps.{safe-at, plus-none, forward-brings}
 
--- the paper's step of one count, signed: "min(K + 1, count of p + mark of q)" for "a count other than -1"
-unfoldable pub signedPlus : ℕ → ℕ → ℤ → ℤ
-signedPlus K mark (pos c) = pos (min (K + 1) (c + mark))
-signedPlus K mark (negsuc c) = negsuc 0
+-- a test of two counts goes the way of the counts
+pub ordered : (a b : ℤ) → ltZ a b ≡ true → oneHigher a ≤ oneHigher b
+ordered (pos a) (pos b) t = let l : a < b = ltb-true a b t in omega arith
+ordered (pos a) (negsuc b) t = absurd (true≢false (sym t))
+ordered (negsuc a) (pos b) t = zero-le
+ordered (negsuc a) (negsuc b) t = zero-le
 
-pub plus-signed : (K mark : ℕ) (c : ℤ) → oneHigher (signedPlus K mark c) ≡ plus K mark (oneHigher c)
-unfolding signedPlus plus
-plus-signed K mark (pos c) = omega arith
+pub not-ordered : (a b : ℤ) → ltZ a b ≡ false → oneHigher b ≤ oneHigher a
+not-ordered (pos a) (pos b) t = let l : b ≤ a = ltb-false a b t in omega arith
+not-ordered (pos a) (negsuc b) t = zero-le
+not-ordered (negsuc a) (pos b) t = absurd (true≢false t)
+not-ordered (negsuc a) (negsuc b) t = zero-le
+
+-- the lesser and the greater of two
+pub lesser-signed : (a b : ℤ) → oneHigher (minZ a b) ≡ min (oneHigher a) (oneHigher b)
+unfolding minZ
+lesser-signed a b =
+    cond-cases (ltZ a b) a b (λ z. oneHigher z ≡ min (oneHigher a) (oneHigher b))
+    (λ t. omega (arith, ordered a b t)) (λ t. omega (arith, not-ordered a b t))
+
+pub greater-signed : (a b : ℤ) → oneHigher (maxZ a b) ≡ max (oneHigher a) (oneHigher b)
+unfolding maxZ
+greater-signed a b =
+    cond-cases (ltZ a b) b a (λ z. oneHigher z ≡ max (oneHigher a) (oneHigher b))
+    (λ t. omega (arith, ordered a b t)) (λ t. omega (arith, not-ordered a b t))
+
+-- a count and a mark: at a run the lesser of K + 1 and their sum
+min-pos : (a b : ℕ) → minZ (pos a) (pos b) ≡ pos (min a b)
+unfolding minZ
+min-pos a b =
+    cond-cases (ltb a b) (pos a) (pos b) (λ z. z ≡ pos (min a b))
+    (λ t. let l : a < b = ltb-true a b t in ap pos (omega arith))
+    (λ t. let l : b ≤ a = ltb-false a b t in ap pos (omega arith))
+
+pub plus-counted : (K mark : ℕ) (c : ℤ) → ltZ c (pos 0) ≡ false → plusSigned K mark c ≡ pos (min (K + 1) (natAbs c + mark))
+unfolding plusSigned
+plus-counted K mark (pos c) t = rw t (min-pos (K + 1) (c + mark))
+plus-counted K mark (negsuc c) t = absurd (true≢false t)
+
+pub plus-signed : (K mark : ℕ) (c : ℤ) → oneHigher (plusSigned K mark c) ≡ plus K mark (oneHigher c)
+unfolding plusSigned plus
+plus-signed K mark (pos c) =
+    ap oneHigher (plus-counted K mark (pos c) (le-ltb c 0 zero-le)) ∙ omega arith
 plus-signed K mark (negsuc c) = refl
 
--- max(-1, c)
-unfoldable pub atLeastNone : ℤ → ℤ
-atLeastNone (pos c) = pos c
-atLeastNone (negsuc c) = negsuc 0
+-- a count less a mark
+pub less-short : (c mark : ℕ) → c < mark → pos c -ℤ pos mark ≡ negsuc (mark - suc c)
+less-short c zero l = absurd (not-suc-le-zero l)
+less-short c (suc mark) l = rw (lt-ltb c (suc mark) l)
 
--- the paper's step back of one count, signed: "max(-1, count of q - mark of q)"
-unfoldable pub signedMinus : ℕ → ℤ → ℤ
-signedMinus mark c = atLeastNone (c -ℤ pos mark)
+pub less-enough : (c mark : ℕ) → mark ≤ c → pos c -ℤ pos mark ≡ pos (c - mark)
+less-enough c zero l = ap pos (omega arith)
+less-enough c (suc mark) l = rw (le-ltb c (suc mark) l)
 
--- of two natural numbers, the difference or -1, one higher
-pub difference-signed : (a b : ℕ) → oneHigher (atLeastNone (subℕ a b)) ≡ suc a - b
-unfolding atLeastNone
-difference-signed a b = go (ltb a b) refl
+pub less-negative : (c mark : ℕ) → negsuc c -ℤ pos mark ≡ negsuc (c + mark)
+less-negative c zero = +ℤ-idr (negsuc c) ∙ ap negsuc (omega arith)
+less-negative c (suc mark) = ap negsuc (omega arith)
+
+pub less-signed : (c : ℤ) (mark : ℕ) → oneHigher (lessSigned c mark) ≡ oneHigher c - mark
+unfolding lessSigned
+less-signed (pos c) mark = go (decLt c mark)
   where
-    go : (less : Bool) → ltb a b ≡ less → oneHigher (atLeastNone (cond less (negsuc (b - suc a)) (pos (a - b)))) ≡ suc a - b
-    go true e = omega (arith, ltb-true a b e)
-    go false e = omega (arith, ltb-false a b e)
+    go : Dec (c < mark) → oneHigher (maxZ noRun (pos c -ℤ pos mark)) ≡ suc c - mark
+    go (yes s) = rw (less-short c mark s) (omega (arith, greater-signed noRun (negsuc (mark - suc c))))
+    go (no s) = rw (less-enough c mark (omega arith)) (omega (arith, greater-signed noRun (pos (c - mark))))
+less-signed (negsuc c) mark = rw (less-negative c mark) (omega (arith, greater-signed noRun (negsuc (c + mark))))
 
--- the step back in ℕ is the truncated difference
-pub minus-signed : (mark : ℕ) (c : ℤ) → oneHigher (signedMinus mark c) ≡ oneHigher c - mark
-unfolding signedMinus atLeastNone
-minus-signed zero (pos c) = omega arith
-minus-signed (suc mark) (pos c) = difference-signed c (suc mark)
-minus-signed zero (negsuc c) = omega (arith, difference-signed 0 (suc c))
-minus-signed (suc mark) (negsuc c) = omega arith
+-- a byte's count is one lower than the byte
+pub lower-signed : (b : ℕ) → oneHigher (oneLower b) ≡ b
+unfolding oneLower
+lower-signed zero = refl
+lower-signed (suc b) = rw (less-enough (suc b) 1 (omega arith)) (omega arith)
 
 -- -1 stays -1 going forward
 pub none-stays-none : (K mark : ℕ) → plus K mark (oneHigher (negsuc 0)) ≡ oneHigher (negsuc 0)

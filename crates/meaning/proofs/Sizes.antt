@@ -14,7 +14,8 @@ module _ {A : Type 0} where
   pub keep-length : (f : A → Bool) (xs : List A) → length (keep f xs) ≤ length xs
   keep-length f [] = zero-le
   keep-length f (x ∷ xs) =
-      keep-one (f x) x (keep f xs) (λ l. length l ≤ suc (length xs)) (λ _. suc-le-suc (keep-length f xs)) (λ _. omega (arith, keep-length f xs))
+      keep-one (f x) x (keep f xs) (λ l. length l ≤ suc (length xs)) (λ _. suc-le-suc (keep-length f xs))
+      (λ _. omega (arith, keep-length f xs))
 
   -- a member that passes is counted
   pub keep-counted : (f : A → Bool) (xs : List A) (x : A) → List·Memᴰ x xs → f x ≡ true → 0 < length (keep f xs)
@@ -45,4 +46,5 @@ module _ {A : Type 0} where
     pub keep-fewer : (xs : List A) → every (λ x. Bool·beq (f x) (g x)) xs ≡ false → length (keep g xs) < length (keep f xs)
     keep-fewer [] p = absurd (true≢false p)
     keep-fewer (x ∷ xs) p =
-        one-fewer (f x) (g x) (every (λ y. Bool·beq (f y) (g y)) xs) x (keep f xs) (keep g xs) (within x) (keep-no-more xs) (keep-fewer xs) p
+        one-fewer (f x) (g x) (every (λ y. Bool·beq (f y) (g y)) xs) x (keep f xs) (keep g xs) (within x) (keep-no-more xs)
+        (keep-fewer xs) p

@@ -1,6 +1,6 @@
--- What passing checks 4 to 10 says of a table's records, check by check, and the other way round; and that the game may be played on the table
--- that such records state (Good.antt). Then the same of two tables that may be joined: both pass, their letters are the same, and together they
--- have at most 8 states on a side.
+-- What passing checks 4 to 10 says of a table's records, check by check, and the other way round; and that the game may be played on the
+-- table that such records state (Good.antt). Then the same of two tables that may be joined: both pass, their letters are the same, and
+-- together they have at most 8 states on a side.
 use mathlib.Core.Path.{_≡_, refl, sym, ap}
 use mathlib.Core.Bool.{Bool, true, false, not, _||_}
 use mathlib.Core.List.{List, [], _∷_, _++_, List·Memᴰ}
@@ -13,7 +13,8 @@ use borrow.Author.Tests.{eqb-true, eqb-false, eq-eqb, ne-eqb, leb-false, ltb-tru
 use Rattle.meaning.specs.Lists.{each, first}
 use Rattle.meaning.specs.Records.{Record, recordsOf, blank, at, controller, world, output, input, outside, ascends, ofKind}
 use Rattle.meaning.specs.Table.{onOutput, onInput, letters, edgeOf, tableOf, Good}
-use Rattle.meaning.specs.Checks.{bound, wrongLength, descent, misnumbered, noStart, dangling, gap, tableChecks, otherLetters, tooLarge}
+use Rattle.meaning.specs.Checks.{bound, wrongLength, descent, misnumbered, noStart, dangling, gap, tableChecks, otherLetters}
+use Rattle.meaning.specs.Checks.{tooLarge}
 use Rattle.meaning.specs.Checks.{pairChecks, Passes}
 use Rattle.meaning.proofs.Tests.{neither-left, neither-right, clash, refuted, each-at, each-of, first-holds, first-before}
 use Rattle.meaning.proofs.Lists.{member-at, no-place, placeless}
@@ -135,14 +136,17 @@ sound-good rs s =
     let lead = leads-at t (s .leads) in
     let ends : (kind l p q : ℕ) → edgeOf kind rs l p q ≡ true → (l < letters kind rs) × (dangling t (edgeRecord kind l p q) ≡ false) =
     λ kind l p q e.
-    let m = edge-member kind rs l p q e in
-    (letters-above kind rs (edgeRecord kind l p q) (ofKind-of kind rs (edgeRecord kind l p q) m refl), s .declared (edgeRecord kind l p q) m) in
+    let m = edge-member kind rs l p q e in (
+      letters-above kind rs (edgeRecord kind l p q) (ofKind-of kind rs (edgeRecord kind l p q) m refl),
+      s .declared (edgeRecord kind l p q) m,
+    ) in
     record {
       some-output = lead .some-output;
       some-input = lead .some-input;
       output-ends = λ o p q e.
           let r = ends output o p q e in
-          let b = ends-declared (t .controllers) (t .worlds) p q (neither-left (leb (t .controllers) p || leb (t .worlds) q) false (r .1)) in
+          let b = ends-declared (t .controllers) (t .worlds) p q
+          (neither-left (leb (t .controllers) p || leb (t .worlds) q) false (r .1)) in
           (r .0, b .0, b .1);
       input-ends = λ i p q e.
           let r = ends input i p q e in
@@ -187,7 +191,8 @@ passes-first one two p which =
 pub passes-second : (one two : List ℕ) → Passes (pairChecks one two) → (which : ℕ) → Passes (tableChecks which two)
 unfolding pairChecks
 passes-second one two p which =
-    other-which 2 which two (passes-right (tableChecks 1 one) (tableChecks 2 two) (passes-left (tableChecks 1 one ++ tableChecks 2 two) _ p))
+    other-which 2 which two (passes-right (tableChecks 1 one) (tableChecks 2 two)
+    (passes-left (tableChecks 1 one ++ tableChecks 2 two) _ p))
 
 pub passes-paired : (one two : List ℕ) → Passes (pairChecks one two) → Paired (recordsOf one) (recordsOf two)
 unfolding pairChecks otherLetters tooLarge

@@ -1,6 +1,6 @@
--- Demand 2 for any call that solves. Solving, and the last stage of solving by parts, differ only in the table and the first set: where no check
--- fails the table is good and the rounds come from that set to exactly the positions that win. The winners are the maximal ones of those, so the
--- verdict, the winning list and the controller mean what they should.
+-- Demand 2 for any call that solves. Solving, and the last stage of solving by parts, differ only in the table and the first set: where
+-- no check fails the table is good and the rounds come from that set to exactly the positions that win. The winners are the maximal ones
+-- of those, so the verdict, the winning list and the controller mean what they should.
 use mathlib.Core.Path.{_≡_, refl, sym, ap, _∙_}
 use mathlib.Core.Logic.{_↔_, Iff·symm, Iff·trans, ⊎-elim}
 use mathlib.Core.Bool.{true}
@@ -120,7 +120,8 @@ module _ (K : ℕ) (rs : List Record) (X : Set) (stage : Stage K rs X) where
   -- also as they are read back from the bytes written
   pub written-realize : (con : List ℕ) → StartCovered K (tableOf rs) X
       → Realizes K (tableOf rs)
-      (follow (rowsIn (take (length (winners K (tableOf rs) X) * tableOf rs .inputs * 4) (written (rowBytes (controllerRows K (tableOf rs) X)) con)))
+      (follow (rowsIn (take (length (winners K (tableOf rs) X) * tableOf rs .inputs * 4)
+      (written (rowBytes (controllerRows K (tableOf rs) X)) con)))
       (startState K (tableOf rs) (winners K (tableOf rs) X)))
   written-realize con h =
       rw (← rows-number K (tableOf rs) X h, rows-read (controllerRows K (tableOf rs) X) con) (rows-realize h)

@@ -72,7 +72,8 @@ stands-inside n m r few-n few-m s =
     limits-hold _ of-input = omega arith
 
 -- and its ends are declared
-pub stands-declared : (t : Table) (r : Record) → 0 < t .controllers → 0 < t .worlds → Stands (t .controllers) (t .worlds) r → dangling t r ≡ false
+pub stands-declared : (t : Table) (r : Record) → 0 < t .controllers → 0 < t .worlds → Stands (t .controllers) (t .worlds) r
+    → dangling t r ≡ false
 unfolding dangling
 stands-declared t r some-n some-m s = go (r .kind) (r .from) (r .letter) (r .to) (s .known-kind) (s .from-in) (s .to-in)
   where
@@ -107,7 +108,8 @@ sound-stands rs s r m =
         → (p < homeIn rs kind) × (q ≤ awayIn rs kind - 1)
     go _ p l q of-controller m hq d = (state-below (ofKind controller rs) _ (s .controllers) (ofKind-of controller rs _ m refl), hq)
     go _ p l q of-world m hq d = (state-below (ofKind world rs) _ (s .worlds) (ofKind-of world rs _ m refl), hq)
-    go _ p l q of-output m hq d = ends-below (controllersOf rs) (worldsOf rs) p q (neither-left (leb (controllersOf rs) p || leb (worldsOf rs) q) false d)
+    go _ p l q of-output m hq d = ends-below (controllersOf rs) (worldsOf rs) p q
+        (neither-left (leb (controllersOf rs) p || leb (worldsOf rs) q) false d)
     go _ p l q of-input m hq d = ends-below (worldsOf rs) (controllersOf rs) p q d
 
 -- renumbering moves the ends up by the states that stand below

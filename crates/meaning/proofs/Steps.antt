@@ -15,7 +15,8 @@ use borrow.Author.Tests.{leb-true, le-leb}
 use Rattle.meaning.specs.Lists.{largest, smallest}
 use Rattle.meaning.specs.Table.{Half}
 use Rattle.meaning.specs.Counting.{Position, nowhere, count, plus, forward, safe, below, back}
-use Rattle.meaning.proofs.Tests.{cond-cases, each-at, each-of, largest-at, largest-of, largest-is, smallest-top, smallest-at, smallest-of}
+use Rattle.meaning.proofs.Tests.{cond-cases, each-at, each-of, largest-at, largest-of, largest-is, smallest-top, smallest-at}
+use Rattle.meaning.proofs.Tests.{smallest-of}
 use Rattle.meaning.proofs.Lists.{tab-length, tab-at}
 
 pub count-nowhere : (n q : ℕ) → count (nowhere n) q ≡ 0
@@ -142,10 +143,7 @@ unfolding plus
 plus-run K mark zero l = l
 plus-run K mark (suc c) l = omega arith
 
--- what stands over an edge, or what stands where there is none
-pub over-edge : (b : Bool) (x y : ℕ) (P : ℕ → Type 0) → (b ≡ true → P x) → (b ≡ false → P y) → P (cond b x y)
-over-edge b x y P p q = cond-cases b x y P p q
-
+-- a run came over an edge
 pub run-over-edge : (b : Bool) (x : ℕ) → 0 < cond b x 0 → (b ≡ true) × (cond b x 0 ≡ x)
 run-over-edge true x c = (refl, refl)
 run-over-edge false x c = absurd (not-suc-le-zero c)
@@ -178,11 +176,12 @@ pub forward-under : (K : ℕ) (h : Half) (F : Position) (q b : ℕ) → q < h .t
 forward-under K h F q b lq fits =
     rw (forward-at K h F q lq)
     (largest-of (h .sources) (brings K h F q) b
-    (λ p lp. over-edge (h .edge p q) (plus K (h .mark q) (count F p)) 0 (λ c. c ≤ b) (fits p lp) (λ _. zero-le)))
+    (λ p lp. cond-cases (h .edge p q) (plus K (h .mark q) (count F p)) 0 (λ c. c ≤ b) (fits p lp) (λ _. zero-le)))
 
 -- a run there came over some edge
 pub forward-came : (K : ℕ) (h : Half) (F : Position) (q : ℕ) → 0 < count (forward K h F) q
-    → (p : ℕ) × (p < h .sources) × (q < h .targets) × (h .edge p q ≡ true) × (0 < count F p) × (count (forward K h F) q ≡ plus K (h .mark q) (count F p))
+    → (p : ℕ) × (p < h .sources) × (q < h .targets) × (h .edge p q ≡ true) × (0 < count F p)
+    × (count (forward K h F) q ≡ plus K (h .mark q) (count F p))
 forward-came K h F q c =
     let lq : q < h .targets = rw (forward-length K h F) at (run-within (forward K h F) q c) in
     let e = forward-at K h F q lq in
@@ -248,7 +247,7 @@ pub back-over : (K : ℕ) (h : Half) (F : Position) (p b : ℕ) → p < h .sourc
 back-over K h F p b lp top fits =
     rw (back-at K h F p lp)
     (smallest-of (K + 1) (h .targets) (allows K h F p) b top
-    (λ q lq. over-edge (h .edge p q) (count F q - h .mark q) (K + 1) (λ c. b ≤ c) (fits q lq) (λ _. top)))
+    (λ q lq. cond-cases (h .edge p q) (count F q - h .mark q) (K + 1) (λ c. b ≤ c) (fits q lq) (λ _. top)))
 
 pub back-safe : (K : ℕ) (h : Half) (F : Position) → safe K (back K h F) ≡ true
 back-safe K h F = safe-of K (back K h F) (λ p l. back-top K h F p (rw (back-length K h F) at l))
@@ -281,13 +280,16 @@ forward-back K h H F eH eF sH sF = (to, fro)
         (λ p lp e. plus-minus K (h .mark q) (count H p) (count F q) (safe-at K F sF q) .1
         (le-trans (below-at H (back K h F) b p) (back-fits K h F p q lp lq e))))
 
--- "the largest position that steps forward to something below F" is back F, whatever H, where every source has a target on the letter, as check 10
--- grants: an overrun of H would still be one after the step
+-- "the largest position that steps forward to something below F" is back F, whatever H, where every source has a target on the letter, as
+-- check 10 grants: an overrun of H would still be one after the step
 pub forward-back-total : (K : ℕ) (h : Half) (H F : Position) → length H ≡ h .sources → length F ≡ h .targets
     → ((p : ℕ) → p < h .sources → (q : ℕ) × (q < h .targets) × (h .edge p q ≡ true)) → safe K F ≡ true
     → (below (forward K h H) F ≡ true) ↔ (below H (back K h F) ≡ true)
-forward-back-total K h H F eH eF leads sF =
-    (λ b. forward-back K h H F eH eF (kept b) sF .0 b, λ b. forward-back K h H F eH eF (safe-down K H (back K h F) b (back-safe K h F)) sF .1 b)
+forward-back-total K h H F eH eF leads sF = (
+  λ b. forward-back K h H F eH eF (kept b) sF .0 b,
+  λ b. forward-back K h H F eH eF (safe-down K H (back K h F) b (back-safe K h F))
+      sF .1 b,
+)
   where
     kept : below (forward K h H) F ≡ true → safe K H ≡ true
     kept b =

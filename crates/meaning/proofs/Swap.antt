@@ -32,7 +32,8 @@ module _ (K : ℕ) (t u whole other : Table) (un : Union t u whole) (on : Union 
       (second-follows t u whole un K) (first-follows t u whole un K)
 
   -- so each W is carried over with its halves swapped,
-  swapped-setW : (r : ℕ) (F G : Position) → length F ≡ t .controllers → fromSafe K whole r (F ++ G) ≡ true → fromSafe K other r (G ++ F) ≡ true
+  swapped-setW : (r : ℕ) (F G : Position) → length F ≡ t .controllers → fromSafe K whole r (F ++ G) ≡ true
+      → fromSafe K other r (G ++ F) ≡ true
   swapped-setW r F G e w =
       rw (swapped-append (t .controllers) F G e) at
       (follows-safe K whole other (swapped (t .controllers)) (swapped (t .worlds)) swapped-follows r (F ++ G) w)
@@ -82,5 +83,6 @@ self-winning K t whole un o F e =
     let there = both-follow t t whole un K t (λ F. F) (λ G. G) (λ F. F) (λ G. G) (same-follows K t) (same-follows K t) in
     same-test (winningSet K whole (F ++ F)) (winningSet K t F)
     (λ w. rw (take-at F F (t .controllers) e) at
-    (follows-winning K whole t (take (t .controllers)) (take (t .worlds)) (first-follows t t whole un K) (omega (arith, un .outputs)) (F ++ F) w))
+    (follows-winning K whole t (take (t .controllers)) (take (t .worlds)) (first-follows t t whole un K) (omega (arith, un .outputs))
+    (F ++ F) w))
     (follows-winning K t whole (λ F. F ++ F) (λ G. G ++ G) there o F)

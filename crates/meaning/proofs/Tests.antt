@@ -131,7 +131,8 @@ some-same (suc n) f g p = ap₂ _||_ (some-same n f g (λ i h. p i (omega arith)
 pub first-le : (n : ℕ) (f : ℕ → Bool) → first n f ≤ n
 first-le zero f = zero-le
 first-le (suc n) f =
-    cond-cases (f zero) zero (suc (first n (λ i. f (suc i)))) (λ r. r ≤ suc n) (λ _. zero-le) (λ _. suc-le-suc (first-le n (λ i. f (suc i))))
+    cond-cases (f zero) zero (suc (first n (λ i. f (suc i)))) (λ r. r ≤ suc n) (λ _. zero-le)
+    (λ _. suc-le-suc (first-le n (λ i. f (suc i))))
 
 pub first-holds : (n : ℕ) (f : ℕ → Bool) → first n f < n → f (first n f) ≡ true
 first-holds zero f = λ h. absurd (not-suc-le-zero h)
@@ -145,7 +146,8 @@ first-before (suc n) f i =
     cond-cases (f zero) zero (suc (first n (λ j. f (suc j)))) (λ r. i < r → f i ≡ false) (λ _ h. absurd (not-suc-le-zero h))
     (λ p h. go i p h (first-before n (λ j. f (suc j))))
   where
-    go : (i : ℕ) → f zero ≡ false → i < suc (first n (λ j. f (suc j))) → ((j : ℕ) → j < first n (λ j. f (suc j)) → f (suc j) ≡ false) → f i ≡ false
+    go : (i : ℕ) → f zero ≡ false → i < suc (first n (λ j. f (suc j))) → ((j : ℕ) → j < first n (λ j. f (suc j)) → f (suc j) ≡ false)
+        → f i ≡ false
     go zero p h rest = p
     go (suc i) p h rest = rest i (le-of-suc-le-suc h)
 
@@ -183,7 +185,8 @@ pub largest-is : (n : ℕ) (f : ℕ → ℕ) → 0 < largest n f → (i : ℕ) �
 largest-is zero f h = absurd (not-suc-le-zero h)
 largest-is (suc n) f h = go (decLt (f n) (largest n f)) (largest-is n f)
   where
-    go : Dec (f n < largest n f) → (0 < largest n f → (i : ℕ) × (i < n) × (f i ≡ largest n f)) → (i : ℕ) × (i < suc n) × (f i ≡ max (largest n f) (f n))
+    go : Dec (f n < largest n f) → (0 < largest n f → (i : ℕ) × (i < n) × (f i ≡ largest n f))
+        → (i : ℕ) × (i < suc n) × (f i ≡ max (largest n f) (f n))
     go (yes l) before =
         let r = before (omega arith) in
         let h : r .0 < n = r .1 in

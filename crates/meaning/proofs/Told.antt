@@ -1,5 +1,5 @@
--- What a caller is told by a call: the record of a call says that what it left is what the definition gives of what it was lent, so whatever
--- holds of every outcome of the definition holds of what the call left, and two calls that are lent the same leave the same.
+-- What a caller is told by a call: the record of a call says that what it left is what the definition gives of what it was lent, so
+-- whatever holds of every outcome of the definition holds of what the call left, and two calls that are lent the same leave the same.
 use mathlib.Core.Path.{_≡_, sym, ap, _∙_, subst⁻¹}
 use mathlib.Core.List.{List}
 use Prim.Native.Nat.{ℕ}

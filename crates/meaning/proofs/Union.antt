@@ -1,7 +1,7 @@
 -- Two tables side by side, as the joined table has them. Counts, tests and steps of positions side by side are those of the halves, since
 -- no edge leads from one half to the other: so each part follows the whole, and the whole follows what both parts follow (Follows.antt).
--- What that says of the rounds stands in Parts.antt (the parts' winning pairs are a first set that loses nothing) and in Swap.antt (swapping
--- the sides swaps the halves of every set, and a table beside itself holds the pair (F, F) exactly where it holds F).
+-- What that says of the rounds stands in Parts.antt (the parts' winning pairs are a first set that loses nothing) and in Swap.antt
+-- (swapping the sides swaps the halves of every set, and a table beside itself holds the pair (F, F) exactly where it holds F).
 use mathlib.Core.Path.{_≡_, sym, ap, ap₂, subst, _∙_}
 use mathlib.Core.Bool.{true, false, cond, _&&_}
 use mathlib.Core.List.{_++_}
@@ -76,7 +76,8 @@ module _ (K : ℕ) (h g whole : Half) (un : HalfUnion h g whole) (F G : Position
 
   brings-second : (p q : ℕ) → p < g .sources → q < g .targets → brings K whole (F ++ G) (h .targets + q) (h .sources + p) ≡ brings K g G q p
   brings-second p q lp lq =
-      let counted : count (F ++ G) (h .sources + p) ≡ count G p = ap (λ (n : ℕ). count (F ++ G) (n + p)) (sym eF) ∙ getD-append-add F G p 0 in
+      let counted : count (F ++ G) (h .sources + p) ≡ count G p = ap (λ (n : ℕ). count (F ++ G) (n + p)) (sym eF)
+      ∙ getD-append-add F G p 0 in
       rw (un .edge-second p q lp lq, un .mark-second q lq, counted)
 
   -- no edge leads from the one to the other

@@ -1,6 +1,6 @@
--- Swapped, every named set has as many maximal members as before, so FULL is given for both or for neither. Swapping the halves carries the
--- members of a set to members of the other, there and back, and keeps what is below below: so it carries maximal members to maximal members, and
--- no two to one.
+-- Swapped, every named set has as many maximal members as before, so FULL is given for both or for neither. Swapping the halves carries
+-- the members of a set to members of the other, there and back, and keeps what is below below: so it carries maximal members to maximal
+-- members, and no two to one.
 use mathlib.Core.Path.{_≡_, refl, sym, ap, ap₂, _∙_}
 use mathlib.Core.Logic.{_⊎_, inl, inr, ⊎-elim}
 use mathlib.Core.Bool.{true}
@@ -85,7 +85,8 @@ module _ (K n m k l : ℕ) (sum : k ≡ n + m) (sum′ : l ≡ m + n) (X Y : Set
   swapped-no-more : length (maximalMembers K k X) ≤ length (maximalMembers K l Y)
   swapped-no-more =
       carried-length (swapped n) (maximalMembers K k X) (maximalMembers K l Y) (members-ascend K k X sX)
-      (λ F G f g e. sym (member-twice F (member-in K k X sX F f)) ∙ ap (swapped m) e ∙ member-twice G (member-in K k X sX G g)) swapped-member
+      (λ F G f g e. sym (member-twice F (member-in K k X sX F f)) ∙ ap (swapped m) e ∙ member-twice G (member-in K k X sX G g))
+      swapped-member
 
 -- two sets that swapping carries into each other have as many maximal members
 swapped-number : (K n m k l : ℕ) → k ≡ n + m → l ≡ m + n → (X Y : Set) → Within X (allSafe K k) → Within Y (allSafe K l)

@@ -1,7 +1,7 @@
 -- A position is in the settled set exactly if it wins. Into the set: a winning strategy's first output and any input lead to a position
 -- that wins with what is left of the strategy, so by induction on r the position is in every W(r). Out of it: play from each position
--- reached the smallest output that leads back into the set; the positions reached guard the runs (`Guards`), so that along every run the one
--- reached counts at least what the run has spent.
+-- reached the smallest output that leads back into the set; the positions reached guard the runs (`Guards`), so that along every run the
+-- one reached counts at least what the run has spent.
 use mathlib.Core.Path.{_≡_, sym, subst, _∙_}
 use mathlib.Core.Logic.{_↔_}
 use mathlib.Core.Bool.{Bool, true}
@@ -43,7 +43,8 @@ pub first-round : (t : Table) (σ : Strategy) (p w i r : ℕ) → t .outputEdge 
 first-round t σ p w i r out back here =
     subst (λ (d : ℕ). Run t σ p (i ∷ []) r d) (omega arith) (round here w i r out back)
 first-round t σ p w i r out back (round {inputs = inputs} run v j s out₁ back₁) =
-    subst (λ (d : ℕ). Run t σ p (j ∷ (inputs ++ (i ∷ []))) s d) (omega arith) (round (first-round t σ p w i r out back run) v j s out₁ back₁)
+    subst (λ (d : ℕ). Run t σ p (j ∷ (inputs ++ (i ∷ []))) s d) (omega arith)
+    (round (first-round t σ p w i r out back run) v j s out₁ back₁)
 
 -- where a round's count came from: a state that has one, by an edge of the output and one of the input
 pub round-from : (K : ℕ) (t : Table) (F : Position) (o i r : ℕ) → 0 < count (afterRound K t o i F) r
@@ -160,7 +161,8 @@ module _ (K : ℕ) (t : Table) (W : Set) where
   unfolding chosen
   chosen-leads F b =
       let a = setB-leads K t W (t .outputs) F b in
-      let l : first (t .outputs) (leadsIn F) < t .outputs = omega (arith, a .1, first-found (t .outputs) (leadsIn F) (a .0) (a .1) (a .2)) in
+      let l : first (t .outputs) (leadsIn F) < t .outputs =
+      omega (arith, a .1, first-found (t .outputs) (leadsIn F) (a .0) (a .1) (a .2)) in
       let same : first (t .outputs) (leadsIn F) ≡ min (first (t .outputs) (leadsIn F)) (t .outputs - 1) = omega arith in
       subst (λ (o : ℕ). leadsIn F o ≡ true) same (first-holds (t .outputs) (leadsIn F) l)
 
@@ -180,8 +182,10 @@ kept-wins K t W g kept F member =
           (record {
             begins = member;
             continues = λ inputs i l on. setA-leads K t W (t .inputs) (halfAfter inputs) (leads inputs on) i l;
-            whole = λ inputs on. allSafe-safe K (t .controllers) (after inputs) (setB-safe K t W (t .outputs) (after inputs) (kept (after inputs) on));
-            half = λ inputs on. allSafe-safe K (t .worlds) (halfAfter inputs) (setA-safe K t W (t .inputs) (halfAfter inputs) (leads inputs on));
+            whole = λ inputs on. allSafe-safe K (t .controllers) (after inputs)
+                (setB-safe K t W (t .outputs) (after inputs) (kept (after inputs) on));
+            half = λ inputs on. allSafe-safe K (t .worlds) (halfAfter inputs)
+                (setA-safe K t W (t .inputs) (halfAfter inputs) (leads inputs on));
             next = λ inputs i l on. below-refl (after (i ∷ inputs));
           });
     }

@@ -36,7 +36,7 @@ numberOf Nothing = 12
 numberOf Letters = 13
 numberOf Size = 14
 
--- "0 REALIZABLE", "1 UNREALIZABLE", else the refusal's own
+-- the code: 0 for REALIZABLE, 1 for UNREALIZABLE, else the refusal's own number
 abbrev pub codeOf : Verdict → ℕ
 codeOf (Realizable s) = 0
 codeOf Unrealizable = 1
@@ -65,8 +65,8 @@ solved answer win con = record { answer = answer; winnersAfter = win; controller
 unfoldable pub unsolved : List ℕ → List ℕ → Check → Solved
 unsolved win con c = solved (refused c) win con
 
--- "0 REALIZABLE: the start position wins. 1 UNREALIZABLE: it doesn't; winners written, controller buffer untouched, start 0": from a
--- winning set, its list of winners and the rounds that led to it
+-- 0 where "the start position wins", 1 where "it doesn't; winners written, controller buffer untouched, start 0": from a winning set, its
+-- list of winners and the rounds that led to it
 unfoldable pub answered : ℕ → Table → Set → List Position → ℕ → List ℕ → List ℕ → Solved
 answered K t won ws rounds win con =
     let s = startState K t ws in

@@ -38,7 +38,7 @@ onInput t i = record { sources = t .worlds; targets = t .controllers; edge = t .
 unfoldable pub letters : ℕ → List Record → ℕ
 letters kind rs = let es = ofKind kind rs in largest (length es) (λ i. suc (at es i .letter))
 
--- "flags: 1 marked, 2 start". "The mark is 1 for a marked state and 0 otherwise.": what bytes 2 and 3 of a state's record say
+-- "1 marked, 2 start". "The mark is 1 for a marked state and 0 otherwise.": what bytes 2 and 3 of a state's record say
 unfoldable pub markIn : Record → ℕ
 markIn r = r .letter % 2
 

@@ -2,8 +2,8 @@
 ghost use mathlib.Core.Path.{_≡_};
 ghost use Rattle.meaning.specs.Answers.{numberOf, codeOf, startOf};
 
-// "Every answer carries a code, a place, which, rounds, number of winners, start. The verdict
-// holds the controller's start, unrealizable, or the refusal's own case."
+// "Every answer carries a code, a place, which .., rounds, number of winners, start. The verdict
+// holds the controller's start, unrealizable, or the refusal's own case"
 pub struct Answer {
     pub verdict: Verdict,
     pub place: usize,

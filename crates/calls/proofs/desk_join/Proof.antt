@@ -1,5 +1,5 @@
--- `desk_join`: with too short an answer's buffer nothing is written; else the output is what joining leaves, and its answer is laid down. Assumes
--- nothing.
+-- `desk_join`: with too short an answer's buffer nothing is written; else the output is what joining leaves, and its answer is laid down.
+-- Assumes nothing.
 use borrow.Author.Needs.{needs}
 use Rattle.calls.proofs.Called.{joins-short, joins-long}
 use Rattle.calls.proofs.desk_join.Statement.{statement}
@@ -24,7 +24,8 @@ returns-2 : tie.Need-returns-2
 returns-2 c =
     let laid = c .before .before in
     let joined = laid .before .before .before .before in
-    joins-long _ _ _ _ (joined .before .before .if1 .left) _ _ _ _ (joined .join .ensures) (laid .report .ensures .0) (laid .report .ensures .1)
+    joins-long _ _ _ _ (joined .before .before .if1 .left) _ _ _ _ (joined .join .ensures) (laid .report .ensures .0)
+    (laid .report .ensures .1)
 
 pub desk-join-spec : {M : Type 1} → statement M
 desk-join-spec =

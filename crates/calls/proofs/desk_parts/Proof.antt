@@ -1,4 +1,5 @@
--- `desk_parts`: the buffers are those that solving by parts leaves with the room that there is, and its answer is laid down. Assumes nothing.
+-- `desk_parts`: the buffers are those that solving by parts leaves with the room that there is, and its answer is laid down. Assumes
+-- nothing.
 use borrow.Author.Needs.{needs}
 use Rattle.meaning.specs.Answers.{parts}
 use Rattle.calls.specs.Called.{calledParts}
@@ -33,7 +34,9 @@ returns c =
     let given = lent .before .before .before .before .before .before .args in
     let win = given .winners .now in
     let con = given .controller .now in
-    called-solving (given .k) (given .room) win con (given .answer .now) (λ n. parts (given .first .now) (given .second .now) (given .k) n win con) (parts-roomless (given .first .now) (given .second .now) (given .k) win con) _ _ _ _ _ _
+    called-solving (given .k) (given .room) win con (given .answer .now)
+    (λ n. parts (given .first .now) (given .second .now) (given .k) n win con)
+    (parts-roomless (given .first .now) (given .second .now) (given .k) win con) _ _ _ _ _ _
     (lent .answered-room .ensures) (solved .parts .ensures) (told .report .ensures .0) (told .report .ensures .1)
 
 pub desk-parts-spec : {M : Type 1} → statement M

@@ -33,7 +33,8 @@ returns c =
     let given = lent .before .before .before .before .before .args in
     let win = given .winners .now in
     let con = given .controller .now in
-    called-solving (given .k) (given .room) win con (given .answer .now) (λ n. solve (given .table .now) (given .k) n win con) (solve-roomless (given .table .now) (given .k) win con) _ _ _ _ _ _
+    called-solving (given .k) (given .room) win con (given .answer .now) (λ n. solve (given .table .now) (given .k) n win con)
+    (solve-roomless (given .table .now) (given .k) win con) _ _ _ _ _ _
     (lent .answered-room .ensures) (solved .solve .ensures) (told .report .ensures .0) (told .report .ensures .1)
 
 pub desk-solve-spec : {M : Type 1} → statement M

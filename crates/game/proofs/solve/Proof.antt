@@ -1,6 +1,6 @@
--- `solve` answers with the first check that fails. At the place after the checks 2 to 10 stands one fact: what is left to judge are 11 and 12 of the
--- one stage. The table that was read states the table of the bytes, and the brim alone covers all safe positions of it, so the stage from the brim is
--- what is left. Assumes nothing.
+-- `solve` answers with the first check that fails. At the place after the checks 2 to 10 stands one fact: what is left to judge are 11
+-- and 12 of the one stage. The table that was read states the table of the bytes, and the brim alone covers all safe positions of it, so
+-- the stage from the brim is what is left. Assumes nothing.
 use mathlib.Core.List.{[], _∷_}
 use mathlib.Core.Path.{_≡_, sym, _∙_, ap}
 use mathlib.Core.Bool.{false}
@@ -24,6 +24,10 @@ use Rattle.game.proofs.First.{brim-covered, brim-first}
 use Rattle.sets.specs.Members.{members}
 use Rattle.sets.specs.Engine.{brim}
 
+-- the way back to the start from where 4 to 10 have passed
+abbrev start : tie.After-enum-told → tie.Start
+start c = let passed = c .before .before .before in passed .before .before .before .before .before .before
+
 -- 3 passes
 room-passes : (c : tie.Else2) →
     let given = c .before .before .before .before .before .before .args in
@@ -32,15 +36,16 @@ unfolding room
 room-passes c = sym (c .before .small-room .ensures) ∙ c .if2 .left
 
 -- 4 to 10 pass
-table-passes : (c : tie.After-enum-told) → Passes (tableChecks 0 (now (c .before .before .before .before .before .before .before .before .before .args .table)))
+table-passes : (c : tie.After-enum-told) → Passes
+    (tableChecks 0 (now (start c .args .table)))
 table-passes c =
-    let bytes = now (c .before .before .before .before .before .before .before .before .before .args .table) in
+    let bytes = now (start c .args .table) in
     passes-none-fails 0 bytes
     (sym (reading-checked bytes (c .before .before .check .ensures)) ∙ c .enum-told .given .1)
 
 -- so 11 and 12 are left to judge
 stage-left : (c : tie.After-enum-told) →
-    let given = c .before .before .before .before .before .before .before .before .before .args in
+    let given = start c .args in
     let t = stated (now (given .table)) in
     let X = allSafe (given .k) (t .controllers) in
     solve (now (given .table)) (given .k) (given .room) (now (given .winners)) (now (given .controller))
@@ -49,14 +54,16 @@ unfolding staged
 stage-left c =
     let passed = c .before .before .before in
     let given = passed .before .before .before .before .before .before .args in
-    sym (solve-stage (now (given .table)) (given .k) (given .room) (now (given .winners)) (now (given .controller)) (passed .before .before .if1 .left)
+    sym (solve-stage (now (given .table)) (given .k) (given .room) (now (given .winners)) (now (given .controller))
+    (passed .before .before .if1 .left)
     (room-passes passed) (table-passes c))
 
 -- the table that was read
 same-table : (c : tie.After-enum-told) →
-    tableIn (c .before .before .check .result .table) ≡ stated (now (c .before .before .before .before .before .before .before .before .before .args .table))
+    tableIn (c .before .before .check .result .table)
+    ≡ stated (now (start c .args .table))
 same-table c =
-    let bytes = now (c .before .before .before .before .before .before .before .before .before .args .table) in
+    let bytes = now (start c .args .table) in
     let reading = c .before .before .check in
     good-table 0 bytes (reading .result .table)
     (reading-table bytes (reading .ensures) (c .enum-told .given .1)) (table-passes c)
@@ -67,7 +74,8 @@ refused-requires c κs = search needs
 returns : tie.Need-returns
 returns c =
     let given = c .before .before .before .before .before .args in
-    solve-bound (now (given .table)) (given .k) (given .room) (now (given .winners)) (now (given .controller)) (c .before .if1 .taken) (c .refused .ensures)
+    solve-bound (now (given .table)) (given .k) (given .room) (now (given .winners)) (now (given .controller)) (c .before .if1 .taken)
+    (c .refused .ensures)
 
 small-room-requires : tie.Need-small-room-requires
 small-room-requires c κs = search needs
@@ -97,8 +105,10 @@ returns-3 c =
     let called = c .before .before .before .before in
     let passed = called .before in
     let given = passed .before .before .before .before .before .before .args in
-    solve-table (now (given .table)) (given .k) (given .room) (now (given .winners)) (now (given .controller)) (passed .before .before .if1 .left)
-    (room-passes passed) (sym (reading-checked (now (given .table)) (called .check .ensures)) ∙ c .before .before .checked .given .1) (c .refused3 .ensures)
+    solve-table (now (given .table)) (given .k) (given .room) (now (given .winners)) (now (given .controller))
+    (passed .before .before .if1 .left)
+    (room-passes passed) (sym (reading-checked (now (given .table)) (called .check .ensures)) ∙ c .before .before .checked .given .1)
+    (c .refused3 .ensures)
 
 enum-told : tie.Need-enum-told
 enum-told c = search needs
@@ -106,13 +116,13 @@ enum-told c = search needs
 -- the list of the brim alone
 brim-listed : (c : tie.After-brim) →
     let told = c .before .before in
-    let given = told .before .before .before .before .before .before .before .before .before .args in
+    let given = start told .args in
     let t = stated (now (given .table)) in
     members (c .brim .result ∷ []) 1 ≡ positionBytes (brim (given .k) (t .controllers)) ∷ []
 unfolding members tableIn
 brim-listed c =
     let told = c .before .before in
-    let k = told .before .before .before .before .before .before .before .before .before .args .k in
+    let k = start told .args .k in
     ap (λ (F : Position). F ∷ []) (c .brim .ensures)
     ∙ ap (λ (t : Table). positionBytes (brim k (t .controllers)) ∷ []) (same-table told)
 
@@ -147,7 +157,7 @@ returns-4 c =
     let called = c .before .before .before .before in
     let begun = called .before .before .before .before in
     let told = begun .before .before in
-    let given = told .before .before .before .before .before .before .before .before .before .args in
+    let given = start told .args in
     let t = stated (now (given .table)) in
     let fit = passes-fit 0 (now (given .table)) (table-passes told) in
     (rw (same-table told, brim-listed begun, brim-covered (given .k) t (fit .small)) at (called .stage .ensures)) ∙ sym (stage-left told)

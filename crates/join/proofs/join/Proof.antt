@@ -1,5 +1,5 @@
--- `join` answers as the meaning does: with too little room it refuses; else it goes by what the checks of the two tables come to, and writes
--- only where they pass. Assumes nothing.
+-- `join` answers as the meaning does: with too little room it refuses; else it goes by what the checks of the two tables come to, and
+-- writes only where they pass. Assumes nothing.
 use mathlib.Core.Path.{_≡_, sym, ap, _∙_}
 use mathlib.Core.Bool.{true}
 use mathlib.Core.List.{List}
@@ -14,6 +14,7 @@ use Rattle.meaning.specs.declared.Refusal.the-variants.{Room}
 use Rattle.meaning.specs.Answers.{join, joinedAs, unjoined, joinedInto}
 use Rattle.meaning.specs.Checks.{check, roomToJoin, pairChecks, joinChecks}
 use Rattle.join.specs.declared.pair.Paired.{Paired}
+use Rattle.join.specs.declared.pair.Readings.{Readings}
 use Rattle.join.specs.Joined.{pairedOf}
 use Rattle.join.proofs.Paired.{byPaired, judge-paired}
 use Rattle.join.proofs.join.Statement.{statement}
@@ -41,28 +42,37 @@ returns c =
 pair-requires : tie.Need-pair-requires
 pair-requires c κs = search needs
 
-enum-known-refusal : tie.Need-enum-known-refusal
-enum-known-refusal c = search needs
+enum-known-paired : tie.Need-enum-known-paired
+enum-known-paired c = search needs
 
 refused-requires-2 : tie.Need-refused-requires-2
 refused-requires-2 c κs = search needs
+
+-- what the join comes to by what the checks of the two tables come to
+judged : (c : tie.After-pair) (p : Paired) → c .pair .result .paired ≡ p →
+    let args = c .before .before .before .before .before .args in
+    let out = now (args .out) in
+    join (now (args .first)) (now (args .second)) out
+    ≡ byPaired (λ r p w. unjoined out (check r p w true)) (joinedInto (joinedBytes (now (args .first)) (now (args .second))) out) p
+judged c p e =
+    let args = c .before .before .before .before .before .args in
+    roomy (now (args .first)) (now (args .second)) (now (args .out)) (c .before .if1 .left) p
+    (sym e ∙ ap (λ (r : Readings). r .paired) (c .pair .ensures))
+
+returns-2 : tie.Need-returns-2
+returns-2 c =
+    let call = c .before .before .before .before in
+    let args = call .before .before .before .before .before .args in
+    rw (judged call _ (c .before .before .paired .given .1)) (ap (λ (a : Answer). joinedAs a (now (args .out))) (c .refused2 .ensures))
 
 enum-told : tie.Need-enum-told
 enum-told c = search needs
 
 write-requires : tie.Need-write-requires
 write-requires c κs =
-    let call = c .before .before .before in
-    (sym (call .pair .ensures) ∙ c .before .enum-told .given .1, call .before .if1 .left)
-
-returns-2 : tie.Need-returns-2
-returns-2 c =
-    let told = c .before .before in
+    let told = c .before in
     let call = told .before .before in
-    let args = call .before .before .before .before .before .args in
-    let fails = sym (told .refusal .given .1) ∙ call .pair .ensures in
-    rw (roomy (now (args .first)) (now (args .second)) (now (args .out)) (call .before .if1 .left) _ fails)
-    (ap (λ (a : Answer). joinedAs a (now (args .out))) (c .refused2 .ensures))
+    (record { both-read = call .pair .ensures; both-pass = told .enum-told .given .1 }, call .before .if1 .left)
 
 same-length : tie.Need-same-length
 same-length c = search needs
@@ -71,11 +81,7 @@ returns-3 : tie.Need-returns-3
 returns-3 c =
     let write = c .before .before in
     let told = write .before .before in
-    let call = told .before .before in
-    let args = call .before .before .before .before .before .args in
-    let passes = sym (told .enum-told .given .1) ∙ call .pair .ensures in
-    rw (roomy (now (args .first)) (now (args .second)) (now (args .out)) (call .before .if1 .left) _ passes, write .write .ensures .0)
-    (ap (joinedAs _) (write .write .ensures .1))
+    rw (judged (told .before .before) _ (told .enum-told .given .1), write .write .ensures .0) (ap (joinedAs _) (write .write .ensures .1))
 
 pub join-spec : {M : Type 1} → statement M
 join-spec =
@@ -84,10 +90,10 @@ join-spec =
     refused-requires
     returns
     pair-requires
-    enum-known-refusal
+    enum-known-paired
     refused-requires-2
+    returns-2
     enum-told
     write-requires
-    returns-2
     same-length
     returns-3)

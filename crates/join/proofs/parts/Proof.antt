@@ -1,5 +1,6 @@
--- `parts`: the call goes by 2, 3 and the checks of the two tables in their order, and comes to the stages in turn where all pass. Assumes nothing.
-use mathlib.Core.Path.{_≡_, sym, _∙_}
+-- `parts`: the call goes by 2, 3 and the checks of the two tables in their order, and comes to the stages in turn where all pass. Assumes
+-- nothing.
+use mathlib.Core.Path.{_≡_, sym, ap, _∙_}
 use mathlib.Core.Bool.{true, false}
 use mathlib.Core.List.{List}
 use Prim.Native.Nat.{ℕ, _≤_, _<_}
@@ -10,6 +11,7 @@ use Rattle.meaning.specs.declared.Refusal.the-variants.{Bound, Room}
 use Rattle.meaning.specs.Answers.{unsolved, parts}
 use Rattle.meaning.specs.Checks.{check, bound, room, pairChecks}
 use Rattle.join.specs.declared.pair.Paired.{Paired}
+use Rattle.join.specs.declared.pair.Readings.{Readings}
 use Rattle.join.specs.Joined.{pairedOf}
 use Rattle.join.specs.Parts.{inTurn}
 use Rattle.join.proofs.Paired.{byPaired, judge-paired}
@@ -79,17 +81,27 @@ enum-known-paired c = search needs
 refused-requires-3 : tie.Need-refused-requires-3
 refused-requires-3 c κs = search needs
 
-returns-3 : tie.Need-returns-3
-returns-3 c =
-    let known = c .before .before in
-    let call = known .before .before in
-    let passed = call .before in
-    let given = passed .before .before .before .before .before .before .before .args in
+-- what the call comes to by what the checks of the two tables come to
+judged : (c : tie.After-pair) (p : Paired) → c .pair .result .paired ≡ p →
+    let given = c .before .before .before .before .before .before .before .before .args in
+    let one = now (given .first) in
+    let two = now (given .second) in
     let win = now (given .winners) in
     let con = now (given .controller) in
-    refusal-leaves win con _ (c .refused3 .ensures)
-    ∙ sym (admitted (now (given .first)) (now (given .second)) (given .k) (given .room) win con (passed .before .before .if1 .left) (roomy passed) _
-    (sym (known .paired .given .1) ∙ call .pair .ensures))
+    parts one two (given .k) (given .room) win con
+    ≡ byPaired (λ r p w. unsolved win con (check r p w true)) (inTurn one two (given .k) (given .room) win con) p
+judged c p e =
+    let passed = c .before in
+    let given = passed .before .before .before .before .before .before .before .args in
+    admitted (now (given .first)) (now (given .second)) (given .k) (given .room) (now (given .winners)) (now (given .controller))
+    (passed .before .before .if1 .left) (roomy passed) p (sym e ∙ ap (λ (r : Readings). r .paired) (c .pair .ensures))
+
+returns-3 : tie.Need-returns-3
+returns-3 c =
+    let call = c .before .before .before .before in
+    let given = call .before .before .before .before .before .before .before .before .args in
+    refusal-leaves (now (given .winners)) (now (given .controller)) _ (c .refused3 .ensures)
+    ∙ sym (judged call _ (c .before .before .paired .given .1))
 
 enum-told : tie.Need-enum-told
 enum-told c = search needs
@@ -97,8 +109,11 @@ enum-told c = search needs
 in-turn-requires : tie.Need-in-turn-requires
 in-turn-requires c κs =
     let told = c .before .before in
-    let call = told .before .before in
-    (call .before .before .before .if1 .left, roomy (call .before), sym (call .pair .ensures) ∙ told .enum-told .given .1)
+    let call = told .before .before in (
+      call .before .before .before .if1 .left,
+      roomy (call .before),
+      record { both-read = call .pair .ensures; both-pass = told .enum-told .given .1 },
+    )
 
 same-length : tie.Need-same-length
 same-length c = search needs
@@ -110,12 +125,7 @@ returns-4 : tie.Need-returns-4
 returns-4 c =
     let turn = c .before .before .before .before in
     let told = turn .before .before .before in
-    let call = told .before .before in
-    let passed = call .before in
-    let given = passed .before .before .before .before .before .before .before .args in
-    turn .in-turn .ensures
-    ∙ sym (admitted (now (given .first)) (now (given .second)) (given .k) (given .room) (now (given .winners)) (now (given .controller))
-    (passed .before .before .if1 .left) (roomy passed) _ (sym (told .enum-told .given .1) ∙ call .pair .ensures))
+    turn .in-turn .ensures ∙ sym (judged (told .before .before) _ (told .enum-told .given .1))
 
 pub parts-spec : {M : Type 1} → statement M
 parts-spec =

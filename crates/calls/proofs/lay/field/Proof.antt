@@ -42,7 +42,8 @@ returns-7 : tie.Need-returns-7
 unfolding fields
 returns-7 c =
     let not = c .match .rest in
-    let past : 6 ≤ c .before .args .i = omega (arith, not .1, not .0 .1, not .0 .0 .1, not .0 .0 .0 .1, not .0 .0 .0 .0 .1, not .0 .0 .0 .0 .0 .1) in
+    let past : 6 ≤ c .before .args .i =
+    omega (arith, not .1, not .0 .1, not .0 .0 .1, not .0 .0 .0 .1, not .0 .0 .0 .0 .1, not .0 .0 .0 .0 .0 .1) in
     sym (List·getD-eq-default (fields (c .before .args .answer)) 0 past)
 
 pub field-spec : {M : Type 1} → statement M

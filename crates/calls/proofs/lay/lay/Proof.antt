@@ -73,7 +73,8 @@ loop-again c =
     let given = at .before .before .args in (
       omega arith,
       simp length-set (at .loop .inv .1),
-      field-laid (fields (given .answer)) (given .out .now) (at .loop .out) (at .loop .i) (c .field .result) (omega arith) (omega arith) (c .field .ensures)
+      field-laid (fields (given .answer)) (given .out .now) (at .loop .out) (at .loop .i) (c .field .result) (omega arith) (omega arith)
+          (c .field .ensures)
           (at .loop .inv .2),
     )
 

@@ -1,4 +1,5 @@
--- `report`: the answer is laid down in the one arm, and nothing is written in the other. A code fits, since it is at most 14. Assumes nothing.
+-- `report`: the answer is laid down in the one arm, and nothing is written in the other. A code fits, since it is at most 14. Assumes
+-- nothing.
 use native.Mathlib.Omega.{arith}
 use borrow.Author.Needs.{needs}
 use borrow.Author.Tests.{lt-ltb, le-ltb}
@@ -28,8 +29,11 @@ returns-2 : tie.Need-returns-2
 unfolding reported
 returns-2 c =
     let laid = c .before .before in
-    let told = laid .before .before .before in
-    (told .code .ensures, rw (le-ltb (length (told .before .before .args .out .now)) 24 (laid .before .before .if1 .left)) (laid .lay .ensures))
+    let told = laid .before .before .before in (
+      told .code .ensures,
+      rw (le-ltb (length (told .before .before .args .out .now)) 24 (laid .before .before .if1 .left))
+          (laid .lay .ensures),
+    )
 
 pub report-spec : {M : Type 1} → statement M
 report-spec =

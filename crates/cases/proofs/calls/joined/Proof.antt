@@ -1,5 +1,5 @@
--- `joined` answers how many bytes the join wrote: its place, if it is not refused. They stand at the buffer's start, so they are no more than it has.
--- Assumes what the kit's io and os assume.
+-- `joined` answers how many bytes the join wrote: its place, if it is not refused. They stand at the buffer's start, so they are no more
+-- than it has. Assumes what the kit's io and os assume.
 use mathlib.Core.Path.{_≡_, refl, sym, ap, _∙_}
 use mathlib.Core.List.{List}
 use Prim.Native.Nat.{ℕ, _≤_}
@@ -23,15 +23,18 @@ ends-within : (one two out : List ℕ) → codeOf (join one two out .answer .ver
 ends-within one two out e =
     let new = joinedBytes one two in
     let (s, granted) = code-realizable (join one two out .answer .verdict) .0 e in
-    let passes = join-judged one two out .granted-exactly (Realizable s) (λ r f. let z : _≡_ {A = ℕ} 0 1 = cc in omega arith) .0 granted .0 in
+    let passes = join-judged one two out .granted-exactly (Realizable s) (λ r f. let z : _≡_ {A = ℕ} 0 1 = cc in omega arith) .0
+    granted .0 in
     rw (join-judged one two out .grants passes) (omega (arith, length-append new (drop (length new) out)))
 
 -- the code that is tested is the join's
 code-given : (c : tie.After-code) →
-    let start = c .before .before .before .before .before .before .before .before .before .before .before in
+    let call = c .before .before .before .before .before in
+    let start = call .before .before .before .before .before .before in
     codeOf (join (now (start .args .first)) (now (start .args .second)) (now (start .args .out)) .answer .verdict) ≡ c .code .result
 code-given c =
-    ap (λ (j : Joined). codeOf (j .answer .verdict)) (sym (c .before .before .before .before .before .join .ensures)) ∙ sym (c .code .ensures)
+    ap (λ (j : Joined). codeOf (j .answer .verdict)) (sym (c .before .before .before .before .before .join .ensures))
+    ∙ sym (c .code .ensures)
 
 join-requires : tie.Need-join-requires
 join-requires c κs = search needs
@@ -48,8 +51,10 @@ same-length c = search needs
 returns : tie.Need-returns
 returns c =
     let call = c .before .before .before .before .before .before in
-    let refused = code-given (c .before) in
-    (ap (λ (j : Joined). j .outAfter) (call .join .ensures), (rw (ne-eqb _ 0 (λ e. c .if1 .taken (sym refused ∙ e))) refl, (omega arith, refl)))
+    let refused = code-given (c .before) in (
+      ap (λ (j : Joined). j .outAfter) (call .join .ensures),
+      (rw (ne-eqb _ 0 (λ e. c .if1 .taken (sym refused ∙ e))) refl, (omega arith, refl)),
+    )
 
 same-length-2 : tie.Need-same-length-2
 same-length-2 c = search needs

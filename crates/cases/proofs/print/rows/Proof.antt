@@ -14,7 +14,8 @@ returns-2 c = search needs
 
 mul-result : tie.Need-mul-result
 mul-result c =
-    let few : c .before .before .args .winners * c .before .before .args .inputs ≤ 256 * 8 = mul-le-mul (c .before .if1 .left) (c .if2 .left) in
+    let few : c .before .before .args .winners * c .before .before .args .inputs ≤ 256 * 8 =
+    mul-le-mul (c .before .if1 .left) (c .if2 .left) in
     omega arith
 
 returns-3 : tie.Need-returns-3

@@ -7,7 +7,7 @@ use lib.IntN.{pos, _-ℤ_}
 use mir.Syntax.{w8, w16}
 use mir.Val.{toZ, ofZ}
 use mir.ValLaws.{toZ-pos, toZ-ofZ}
-use Rattle.counts.specs.Signed.{oneLower}
+use Rattle.meaning.specs.Signed.{oneLower}
 use Rattle.counts.proofs.Signed.{wider, lower-fits}
 use Rattle.counts.proofs.count.from_byte.Statement.{statement}
 use Rattle.counts.proofs.count.from_byte.Tie as tie

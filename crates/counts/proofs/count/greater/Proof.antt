@@ -1,7 +1,7 @@
 -- `greater` makes the definition's own test. Assumes nothing.
 use mir.Syntax.{w8}
 use mir.ValLaws.{toZ-ofZ}
-use Rattle.counts.specs.Signed.{maxZ}
+use Rattle.meaning.specs.Signed.{maxZ}
 use Rattle.counts.proofs.count.greater.Statement.{statement}
 use Rattle.counts.proofs.count.greater.Tie as tie
 

@@ -6,7 +6,7 @@ use lib.IntN.{pos, _-ℤ_}
 use mir.Syntax.{w8, w16}
 use mir.Val.{toZ, ofZ}
 use mir.ValLaws.{toZ-pos, toZ-ofZ}
-use Rattle.counts.specs.Signed.{lessSigned}
+use Rattle.meaning.specs.Signed.{lessSigned}
 use Rattle.counts.proofs.Signed.{wider, floored, not-floored, less-fits, less-small}
 use Rattle.counts.proofs.count.less.Statement.{statement}
 use Rattle.counts.proofs.count.less.Tie as tie

@@ -1,7 +1,7 @@
 -- `lesser` makes the definition's own test. Assumes nothing.
 use mir.Syntax.{w8}
 use mir.ValLaws.{toZ-ofZ}
-use Rattle.counts.specs.Signed.{minZ}
+use Rattle.meaning.specs.Signed.{minZ}
 use Rattle.counts.proofs.count.lesser.Statement.{statement}
 use Rattle.counts.proofs.count.lesser.Tie as tie
 

@@ -6,7 +6,8 @@ use borrow.Author.Needs.{needs}
 use lib.IntN.{pos, natAbs}
 use mir.Syntax.{w8}
 use mir.ValLaws.{toZ-pos, toZ-ofZ}
-use Rattle.counts.proofs.Signed.{not-negative, small, plus-no-run, plus-run}
+use Rattle.meaning.proofs.Signed.{plus-counted}
+use Rattle.counts.proofs.Signed.{not-negative, small, plus-no-run}
 use Rattle.counts.proofs.count.plus.Statement.{statement}
 use Rattle.counts.proofs.count.plus.Tie as tie
 
@@ -43,7 +44,7 @@ returns-2 c =
     let e = toZ-ofZ w8 a (c .before .before .fits .c) in
     let l : k < natAbs a + m = rw e at (c .if2 .taken) in
     let r : k + 1 ≡ min (k + 1) (natAbs a + m) = omega arith in
-    toZ-pos w8 (k + 1) (omega arith) ∙ ap pos r ∙ sym (plus-run k m a (rw e at (c .before .if1 .left)))
+    toZ-pos w8 (k + 1) (omega arith) ∙ ap pos r ∙ sym (plus-counted k m a (rw e at (c .before .if1 .left)))
 
 cast-result-2 : tie.Need-cast-result-2
 cast-result-2 c = search needs
@@ -56,7 +57,7 @@ returns-3 c =
     let e = toZ-ofZ w8 a (c .before .before .fits .c) in
     let l : natAbs a + m ≤ k = rw e at (c .if2 .left) in
     let r : natAbs a + m ≡ min (k + 1) (natAbs a + m) = omega arith in
-    rw e (toZ-pos w8 (natAbs a + m) (omega arith) ∙ ap pos r ∙ sym (plus-run k m a (rw e at (c .before .if1 .left))))
+    rw e (toZ-pos w8 (natAbs a + m) (omega arith) ∙ ap pos r ∙ sym (plus-counted k m a (rw e at (c .before .if1 .left))))
 
 pub plus-spec : {M : Type 1} → statement M
 plus-spec =

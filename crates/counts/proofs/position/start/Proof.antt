@@ -1,5 +1,5 @@
--- `start`: the loop's invariant is that `out` holds the start position's counts at the states before q. A turn stores 0 plus no mark at a start
--- state of the side, and leaves -1 elsewhere. The measure is the number of states left. Assumes nothing.
+-- `start`: the loop's invariant is that `out` holds the start position's counts at the states before q. A turn stores 0 plus no mark at a
+-- start state of the side, and leaves -1 elsewhere. The measure is the number of states left. Assumes nothing.
 use mathlib.Core.Path.{_≡_, sym, ap, _∙_}
 use mathlib.Core.Bool.{cond}
 use mathlib.Core.Logic.{⊎-elim}
@@ -10,7 +10,8 @@ use Rattle.meaning.specs.Table.{bit}
 use Rattle.meaning.specs.Counting.{oneHigher, count, plus}
 use Rattle.meaning.proofs.Lists.{tab-at, tab-beyond}
 use Rattle.counts.specs.Cells.{startCounts}
-use Rattle.counts.proofs.Signed.{from-bits, plus-signed}
+use Rattle.meaning.proofs.Signed.{plus-signed}
+use Rattle.counts.proofs.Signed.{from-bits}
 use Rattle.counts.proofs.Cells.{Filled, filled-none, filled-store, filled-skip, filled-wide}
 use Rattle.counts.proofs.position.start.Statement.{statement}
 use Rattle.counts.proofs.position.start.Tie as tie

@@ -8,7 +8,7 @@ use native.Mathlib.Omega.{arith}
 use borrow.Author.Needs.{needs}
 use borrow.Author.Tests.{not-true, not-false}
 use Rattle.counts.specs.Words.{barCounts}
-use Rattle.counts.proofs.Bytes.{Packed, packed-none, packed-room, packed-next, packed-whole}
+use Rattle.counts.proofs.Packing.{Packed, packed-none, packed-room, packed-next, packed-whole}
 use Rattle.counts.proofs.Bars.{bar-length, bar-set, bar-unset}
 use Rattle.counts.proofs.word.bar.Statement.{statement}
 use Rattle.counts.proofs.word.bar.Tie as tie
@@ -56,8 +56,10 @@ loop-again c =
     let l = in-loop .loop-test .taken in
     let next = packed-next (barCounts masks q) p (at .loop .word) (at .loop .inv) in
     let long = bar-length masks q in
-    ⊎-elim (λ w. rw (w .1) (next 127 long l (omega arith) (bar-unset masks q p l (sym (c .before .has .ensures) ∙ not-true _ (w .0 .taken)))))
-    (λ w. rw (w .1, ← add-zero (at .loop .word * 256)) (next 0 long l (omega arith) (bar-set masks q p l (sym (c .before .has .ensures) ∙ not-false _ (w .0 .left)))))
+    ⊎-elim (λ w. rw (w .1) (next 127 long l (omega arith)
+    (bar-unset masks q p l (sym (c .before .has .ensures) ∙ not-true _ (w .0 .taken)))))
+    (λ w. rw (w .1, ← add-zero (at .loop .word * 256))
+    (next 0 long l (omega arith) (bar-set masks q p l (sym (c .before .has .ensures) ∙ not-false _ (w .0 .left)))))
     (c .if1 .came)
 
 returns : tie.Need-returns Inv-loop μ-loop

@@ -13,7 +13,7 @@ use Rattle.meaning.proofs.Lists.{every-at, member-at}
 use Rattle.counts.specs.Cells.{cells}
 use Rattle.counts.proofs.Signed.{from-bits}
 use Rattle.counts.proofs.Cells.{cells-length, cells-at}
-use Rattle.counts.proofs.Bytes.{Packed, packed-none, packed-room, packed-next, packed-whole}
+use Rattle.counts.proofs.Packing.{Packed, packed-none, packed-room, packed-next, packed-whole}
 use Rattle.counts.proofs.word.pack.Statement.{statement}
 use Rattle.counts.proofs.word.pack.Tie as tie
 

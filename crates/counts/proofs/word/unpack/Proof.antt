@@ -7,9 +7,10 @@ use borrow.Author.Needs.{needs}
 use lib.ListN.{length, length-set, drop}
 use Rattle.meaning.specs.Counting.{oneHigher}
 use Rattle.counts.specs.Cells.{cells}
-use Rattle.counts.proofs.Signed.{from-bits, lower-signed}
+use Rattle.meaning.proofs.Signed.{lower-signed}
+use Rattle.counts.proofs.Signed.{from-bits}
 use Rattle.counts.specs.Words.{countsBefore, countsIn}
-use Rattle.counts.proofs.Bytes.{unpacked-next}
+use Rattle.counts.proofs.Packing.{unpacked-next}
 use Rattle.counts.proofs.word.unpack.Statement.{statement}
 use Rattle.counts.proofs.word.unpack.Tie as tie
 

@@ -1,5 +1,5 @@
--- `finish`: each return is one case of the definition. A buffer is written only once there is a winner, and the controller's only if the start
--- position wins. Assumes nothing.
+-- `finish`: each return is one case of the definition. A buffer is written only once there is a winner, and the controller's only if the
+-- start position wins. Assumes nothing.
 use mathlib.Core.Path.{_≡_, ap, _∙_}
 use native.Mathlib.Omega.{arith}
 use borrow.Author.Needs.{needs}
@@ -22,7 +22,8 @@ number c = members-length (c .args .list .now) (c .args .n) (c .pre .0)
 
 -- the place found is the start state
 begins : (c : tie.After-covering)
-    → (let given = c .before .before .before .before .before .before .before .before .before .before .args in
+    → (let begun = c .before .before in
+    let given = begun .before .before .before .before .before .before .before .before .args in
     c .covering .result ≡ startState (given .k) (tableIn (given .table)) (members (given .list .now) (given .n)))
 unfolding tableIn startPosition startCounts
 begins c =
@@ -30,7 +31,8 @@ begins c =
     let start = begun .before .before .before .before .before .before .before .before in
     let given = start .args in
     c .covering .ensures
-    ∙ start-stepped (given .k) (tableIn (given .table)) (start .pre .1 .bounded) (members (given .list .now) (given .n)) (cells (begun .start .result)) (begun .start .ensures)
+    ∙ start-stepped (given .k) (tableIn (given .table)) (start .pre .1 .bounded) (members (given .list .now) (given .n))
+    (cells (begun .start .result)) (begun .start .ensures)
 
 refused-requires : tie.Need-refused-requires
 refused-requires c κs = search needs
@@ -40,7 +42,8 @@ returns c =
     let start = c .before .before .before .before in
     let given = start .args in
     ap (λ (r : Answer). solved r (given .winners .now) (given .controller .now)) (c .refused .ensures)
-    ∙ finished-nothing (given .k) (tableIn (given .table)) (members (given .list .now) (given .n)) (given .rounds) (given .winners .now) (given .controller .now)
+    ∙ finished-nothing (given .k) (tableIn (given .table)) (members (given .list .now) (given .n)) (given .rounds) (given .winners .now)
+    (given .controller .now)
     (given .n) (number start) (c .before .if1 .taken)
 
 write-winners-requires : tie.Need-write-winners-requires
@@ -62,13 +65,16 @@ returns-2 c =
     let wrote = c .before .before .before .before .before .before in
     let start = wrote .before .before .before .before .before in
     let given = start .args in
-    finished-without (given .k) (tableIn (given .table)) (members (given .list .now) (given .n)) (given .rounds) (given .winners .now) (given .controller .now)
-    (given .n) (number start) (wrote .before .before .if1 .left) (c .before .covering .result) (begins (c .before)) (wrote .write-winners .last .1 .1 .0)
+    finished-without (given .k) (tableIn (given .table)) (members (given .list .now) (given .n)) (given .rounds) (given .winners .now)
+    (given .controller .now)
+    (given .n) (number start) (wrote .before .before .if1 .left) (c .before .covering .result) (begins (c .before))
+    (wrote .write-winners .last .1 .1 .0)
     (wrote .write-winners .ensures) (c .if2 .taken)
 
 write-rows-requires : tie.Need-write-rows-requires
 write-rows-requires c κs =
-    let start = c .before .before .before .before .before .before .before .before .before .before .before .before in
+    let begun = c .before .before .before .before in
+    let start = begun .before .before .before .before .before .before .before .before in
     (start .pre .0, c .before .if2 .left, start .pre .1, omega (arith, start .pre .2 .controller, number start))
 
 same-length-2 : tie.Need-same-length-2
@@ -84,8 +90,10 @@ returns-3 c =
     let wrote = found .before .before .before .before .before .before in
     let start = wrote .before .before .before .before .before in
     let given = start .args in
-    finished-with (given .k) (tableIn (given .table)) (members (given .list .now) (given .n)) (given .rounds) (given .winners .now) (given .controller .now)
-    (given .n) (number start) (wrote .before .before .if1 .left) (found .before .covering .result) (begins (found .before)) (wrote .write-winners .last .1 .1 .0)
+    finished-with (given .k) (tableIn (given .table)) (members (given .list .now) (given .n)) (given .rounds) (given .winners .now)
+    (given .controller .now)
+    (given .n) (number start) (wrote .before .before .if1 .left) (found .before .covering .result) (begins (found .before))
+    (wrote .write-winners .last .1 .1 .0)
     (wrote .write-winners .ensures) (found .if2 .left) (rows .write-rows .last .1 .1 .1 .1 .1 .0) (rows .write-rows .ensures)
 
 pub finish-spec : {M : Type 1} → statement M

@@ -1,5 +1,5 @@
--- `masks`: the loop's invariant is that the first p masks are the bytes of the letter's first p states. The measure is the number of states left.
--- Past the eighth letter there are no bytes. Assumes nothing.
+-- `masks`: the loop's invariant is that the first p masks are the bytes of the letter's first p states. The measure is the number of
+-- states left. Past the eighth letter there are no bytes. Assumes nothing.
 use mathlib.Core.Path.{_≡_, refl, sym, ap, _∙_}
 use mathlib.Core.List.{List}
 use Prim.Native.Nat.{ℕ, _+_, _-_, _*_, _≤_}

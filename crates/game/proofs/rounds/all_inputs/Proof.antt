@@ -1,5 +1,5 @@
--- `all_inputs`: the loop's invariant is that `a` holds the list of A for the inputs so far, and that each list on the way kept to the room. A turn
--- cuts it by one input, or that input's list is past the room. The measure is the number of inputs left. Assumes nothing.
+-- `all_inputs`: the loop's invariant is that `a` holds the list of A for the inputs so far, and that each list on the way kept to the
+-- room. A turn cuts it by one input, or that input's list is past the room. The measure is the number of inputs left. Assumes nothing.
 use mathlib.Core.Path.{_≡_, refl, ap, _∙_}
 use mathlib.Core.List.{[], _∷_}
 use Prim.Native.Nat.{suc, _≤_, _-_, zero-le}
@@ -26,7 +26,8 @@ abbrev μ-loop : tie.MeasureT-loop
 μ-loop table k room w wn a₀ n₀ input₀ a n input = table .inputs - input
 
 -- the first store leaves the array as long as it was
-as-long : (c : tie.After-brim Inv-loop μ-loop) → length (set (c .before .args .a .now) 0 (c .brim .result)) ≡ length (c .before .args .a .now)
+as-long : (c : tie.After-brim Inv-loop μ-loop) → length (set (c .before .args .a .now) 0 (c .brim .result))
+    ≡ length (c .before .args .a .now)
 as-long c = length-set (c .before .args .a .now) 0 (c .brim .result)
 
 -- one input more: the list that is cut is the next one
@@ -95,7 +96,8 @@ returns c =
     let called = c .before .before .before in
     let at = called .before .before .before .before .before in
     let given = at .before .before .args in
-    runs-full (listA (given .k) (tableIn (given .table)) (members (given .w .now) (given .wn))) (cut-list called) (c .enum-told .given .1) (omega arith)
+    runs-full (listA (given .k) (tableIn (given .table)) (members (given .w .now) (given .wn))) (cut-list called) (c .enum-told .given .1)
+    (omega arith)
 
 loop-less : tie.Need-loop-less Inv-loop μ-loop
 loop-less c = search needs

@@ -1,5 +1,6 @@
--- `all_outputs`: the loop's invariant is that `b` holds the list of B for the outputs so far, and that each list on the way kept to the room. A turn
--- widens it by one output, or that output's list is past the room. The measure is the number of outputs left. Assumes nothing.
+-- `all_outputs`: the loop's invariant is that `b` holds the list of B for the outputs so far, and that each list on the way kept to the
+-- room. A turn widens it by one output, or that output's list is past the room. The measure is the number of outputs left. Assumes
+-- nothing.
 use mathlib.Core.Path.{_≡_, refl}
 use Prim.Native.Nat.{suc, _≤_, _-_, zero-le}
 use native.Mathlib.Numerals.{add-one}
@@ -48,7 +49,15 @@ widen-requires c κs =
     let given = at .before .args in
     let ready = listB-ready (given .k) (tableIn (given .table)) (members (given .v .now) (given .vn)) (at .loop .output) in
     let runs = at .loop .inv .1 in (
-      (omega arith, omega arith, omega arith, omega (arith, runs .within), omega (arith, runs .within, runs .long), omega arith, omega (arith, runs .long)),
+      (
+        omega arith,
+        omega arith,
+        omega arith,
+        omega (arith, runs .within),
+        omega (arith, runs .within, runs .long),
+        omega arith,
+        omega (arith, runs .long),
+      ),
       (rw (runs .holds) (ready-low (given .k) _ (omega arith) ready), rw (runs .holds) (ready .own)),
     )
 
@@ -67,7 +76,8 @@ returns c =
     let called = c .before .before .before in
     let at = called .before .before .before .before .before in
     let given = at .before .args in
-    runs-full (listB (given .k) (tableIn (given .table)) (members (given .v .now) (given .vn))) (widened called) (c .enum-told .given .1) (omega arith)
+    runs-full (listB (given .k) (tableIn (given .table)) (members (given .v .now) (given .vn))) (widened called) (c .enum-told .given .1)
+    (omega arith)
 
 loop-less : tie.Need-loop-less Inv-loop μ-loop
 loop-less c = search needs
@@ -78,7 +88,8 @@ loop-again c =
     let called = c .before .before .before .before in
     let at = called .before .before .before .before .before in (
       omega arith,
-      rw (add-one (at .loop .output)) (runs-more _ (at .loop .inv .1) (widened called) (c .before .found .given .1) (called .widen .kept .1 .1 .1 .1 .0) (omega arith)),
+      rw (add-one (at .loop .output))
+          (runs-more _ (at .loop .inv .1) (widened called) (c .before .found .given .1) (called .widen .kept .1 .1 .1 .1 .0) (omega arith)),
     )
 
 same-length-2 : tie.Need-same-length-2 Inv-loop μ-loop

@@ -1,5 +1,5 @@
--- `next_round`: the array of the inputs holds the list of A for all inputs, so what the outputs make of it is W(r + 1). If the inputs had room, the
--- widest list of the round is past the room exactly if that of the outputs is. Assumes nothing.
+-- `next_round`: the array of the inputs holds the list of A for all inputs, so what the outputs make of it is W(r + 1). If the inputs had
+-- room, the widest list of the round is past the room exactly if that of the outputs is. Assumes nothing.
 use native.Mathlib.Omega.{arith}
 use borrow.Author.Needs.{needs}
 use Rattle.table.specs.Packed.{tableIn}

@@ -1,6 +1,6 @@
--- `settle`: the loop's invariant is that the rounds so far have run without a repeat and within the room, and that `w` holds the list of W(r). A round
--- with a list past the room is FULL; where the list repeats, the winners are there; else one round more has run. The measure is what is left
--- of (K + 2) ^ n rounds. Assumes nothing.
+-- `settle`: the loop's invariant is that the rounds so far have run without a repeat and within the room, and that `w` holds the list of
+-- W(r). A round with a list past the room is FULL; where the list repeats, the winners are there; else one round more has run. The
+-- measure is what is left of (K + 2) ^ n rounds. Assumes nothing.
 use mathlib.Core.Path.{_≡_, sym, _∙_}
 use Prim.Native.Nat.{_+_, _-_, _≤_, _^_}
 use native.Mathlib.Numerals.{add-one}
@@ -15,7 +15,8 @@ use Rattle.sets.proofs.Members.{members-length, same-lists}
 use Rattle.sets.proofs.Engine.{Running}
 use Rattle.game.specs.Rounds.{coveredBy, widestOf}
 use Rattle.game.proofs.Runs.{full-last, number-last}
-use Rattle.game.proofs.Settled.{rounds-few, next-within, settles-first-full, settles-start, settles-bound, settles-round-full, settles-next, settles-repeat}
+use Rattle.game.proofs.Settled.{rounds-few, next-within, settles-first-full, settles-start, settles-bound, settles-round-full}
+use Rattle.game.proofs.Settled.{settles-next, settles-repeat}
 use Rattle.game.proofs.rounds.settle.Statement.{statement}
 use Rattle.game.proofs.rounds.settle.Tie as tie
 
@@ -40,8 +41,11 @@ round-held c =
     let called = c .before .before .before in
     let at = called .before .before .before in
     let given = at .before .before .before .before .before .args in
-    let held = number-last (called .next-round .ensures) (c .found .given .1) in
-    (held .0, omega (arith, held .0, held .1, next-within (given .k) (tableIn (given .table)) (members (at .loop .w) (at .loop .wn))), held .2)
+    let held = number-last (called .next-round .ensures) (c .found .given .1) in (
+      held .0,
+      omega (arith, held .0, held .1, next-within (given .k) (tableIn (given .table)) (members (at .loop .w) (at .loop .wn))),
+      held .2,
+    )
 
 returns : tie.Need-returns Inv-loop μ-loop
 returns c =
@@ -96,7 +100,8 @@ same-requires c κs =
 
 add-rounds : tie.Need-add-rounds Inv-loop μ-loop
 add-rounds c =
-    let at = c .before .before .before .before .before .before .before .before .before .before .before in
+    let found = c .before .before .before .before .before in
+    let at = found .before .before .before .before .before .before in
     let start = at .before .before .before .before .before in
     let given = start .args in
     let list = start .pre .5 in
@@ -108,7 +113,8 @@ add-rounds c =
 
 loop-less : tie.Need-loop-less Inv-loop μ-loop
 loop-less c =
-    let at = c .before .before .before .before .before .before .before .before .before .before .before in
+    let found = c .before .before .before .before .before in
+    let at = found .before .before .before .before .before .before in
     let start = at .before .before .before .before .before in
     omega (arith, settles-bound (start .pre .5) (at .loop .inv .2))
 
@@ -119,7 +125,8 @@ loop-again c =
     let start = at .before .before .before .before .before in
     let given = start .args in
     let held = round-held found in
-    let differs : (nextList (given .k) (tableIn (given .table)) (members (at .loop .w) (at .loop .wn)) ≡ members (at .loop .w) (at .loop .wn)) → ⊥ =
+    let differs : (nextList (given .k) (tableIn (given .table)) (members (at .loop .w) (at .loop .wn))
+    ≡ members (at .loop .w) (at .loop .wn)) → ⊥ =
     λ e. clash _ (same-lists _ _ .1 (sym (held .2 ∙ e))) (sym (c .before .same .ensures) ∙ c .if2 .left) in (
       found .before .before .before .next-round .kept .1 .1 .1 .1 .1 .0,
       held .1,
@@ -131,7 +138,8 @@ slice-aggregate-copy-2 c = search needs
 
 copy-requires-2 : tie.Need-copy-requires-2 Inv-loop μ-loop
 copy-requires-2 c κs =
-    let at = c .before .before .before .before .before .before .before .before .before .before .before .before .before in
+    let found = c .before .before .before .before .before .before .before in
+    let at = found .before .before .before .before .before .before in
     let start = at .before .before .before .before .before in
     (omega arith, omega (arith, at .loop .inv .1, start .pre .4))
 
@@ -146,7 +154,8 @@ returns-3 c =
     let start = at .before .before .before .before .before in
     let held = round-held found in
     let repeats = sym (held .2) ∙ sym (same-lists _ _ .0 (sym (same .before .same .ensures) ∙ same .if2 .taken)) in
-    settles-repeat (start .pre .5) (at .loop .inv .2) (held .0) repeats (sym (members-length (at .loop .w) (at .loop .wn) (omega arith))) (c .before .copy2 .ensures)
+    settles-repeat (start .pre .5) (at .loop .inv .2) (held .0) repeats (sym (members-length (at .loop .w) (at .loop .wn) (omega arith)))
+    (c .before .copy2 .ensures)
 
 pub settle-spec : {M : Type 1} → statement M
 settle-spec =

@@ -1,5 +1,5 @@
--- `stage`: the rounds settle from the set that the first list covers. Where they are full, so is the stage; else finishing the list that they left is
--- what the stage comes to. Assumes nothing.
+-- `stage`: the rounds settle from the set that the first list covers. Where they are full, so is the stage; else finishing the list that
+-- they left is what the stage comes to. Assumes nothing.
 use mathlib.Core.Path.{_∙_}
 use native.Mathlib.Omega.{arith}
 use borrow.Author.Needs.{needs}
@@ -34,7 +34,8 @@ returns c =
     let told = c .before in
     let call = told .before .before .before in
     let start = call .before .before .before .before in
-    settled-full (call .settle .ensures) (told .enum-told .given .1) 0 (now (start .args .winners)) (now (start .args .controller)) _ (c .refused .ensures)
+    settled-full (call .settle .ensures) (told .enum-told .given .1) 0 (now (start .args .winners)) (now (start .args .controller))
+    _ (c .refused .ensures)
 
 slice-aggregate-finish : tie.Need-slice-aggregate-finish
 slice-aggregate-finish c = search needs
@@ -50,7 +51,8 @@ finish-requires c κs =
     let within = room-within (start .args .room) (now (start .args .winners)) (now (start .args .controller)) (start .pre .0 .1) in (
       omega (arith, after-settled settles (known .settled .given .1) .4, within .1, call .settle .kept .1 .1 .1 .1 .1 .0),
       settled-playable settles (known .settled .given .1) first fit (start .pre .0 .0) (within .1),
-      settled-roomy settles (known .settled .given .1) first fit (now (start .args .winners)) (now (start .args .controller)) (start .pre .0 .1),
+      settled-roomy settles (known .settled .given .1) first fit (now (start .args .winners)) (now (start .args .controller))
+          (start .pre .0 .1),
     )
 
 same-length : tie.Need-same-length

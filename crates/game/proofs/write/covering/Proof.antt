@@ -1,5 +1,5 @@
--- `covering`: the loop's invariant is that the position is below none of the first i members. The measure is the number of members left. Assumes
--- nothing.
+-- `covering`: the loop's invariant is that the position is below none of the first i members. The measure is the number of members left.
+-- Assumes nothing.
 use mathlib.Core.Path.{_≡_, refl, sym, _∙_}
 use mathlib.Core.Bool.{false}
 use mathlib.Core.List.{[]}

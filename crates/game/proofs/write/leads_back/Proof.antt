@@ -1,5 +1,5 @@
--- `leads_back`: the loop's invariant is that each of the first i inputs leads back into the set that the list covers. The measure is the number of
--- inputs left. Assumes nothing.
+-- `leads_back`: the loop's invariant is that each of the first i inputs leads back into the set that the list covers. The measure is the
+-- number of inputs left. Assumes nothing.
 use mathlib.Core.Path.{_≡_, refl, sym, _∙_}
 use mathlib.Core.Bool.{true}
 use Prim.Native.Nat.{_≤_, _-_, zero-le}
@@ -18,7 +18,8 @@ use Rattle.game.proofs.write.leads_back.Statement.{statement}
 use Rattle.game.proofs.write.leads_back.Tie as tie
 
 abbrev Inv-loop : tie.InvT-loop
-Inv-loop table k list n p letter i₀ i = (i ≤ table .inputs) × (each i (λ j. covered (members list n) (afterRound k (tableIn table) letter j (cells p))) ≡ true)
+Inv-loop table k list n p letter i₀ i = (i ≤ table .inputs)
+    × (each i (λ j. covered (members list n) (afterRound k (tableIn table) letter j (cells p))) ≡ true)
 
 abbrev μ-loop : tie.MeasureT-loop
 μ-loop table k list n p letter i₀ i = table .inputs - i
@@ -27,13 +28,15 @@ abbrev μ-loop : tie.MeasureT-loop
 led : (c : tie.After-covers Inv-loop μ-loop)
     → (let at = c .before .before .before .before .before in
     let given = at .before .args in
-    c .covers .result ≡ covered (members (given .list .now) (given .n)) (afterRound (given .k) (tableIn (given .table)) (given .letter) (at .loop .i) (cells (given .p .now))))
+    c .covers .result ≡ covered (members (given .list .now) (given .n))
+    (afterRound (given .k) (tableIn (given .table)) (given .letter) (at .loop .i) (cells (given .p .now))))
 led c =
     let stepped = c .before .before in
     let at = stepped .before .before .before in
     let given = at .before .args in
     c .covers .ensures
-    ∙ covered-stepped (given .k) (tableIn (given .table)) (at .before .pre) (given .letter) (at .loop .i) (cells (given .p .now)) (members (given .list .now) (given .n))
+    ∙ covered-stepped (given .k) (tableIn (given .table)) (at .before .pre) (given .letter) (at .loop .i) (cells (given .p .now))
+    (members (given .list .now) (given .n))
     (cells (stepped .after-round .result)) (stepped .after-round .ensures)
 
 loop-holds : tie.Need-loop-holds Inv-loop μ-loop
@@ -50,7 +53,8 @@ unfolding leadsBack tableIn
 returns c =
     let turn = c .before .before .before .before in
     let at = turn .before .before in
-    sym (each-fails (at .before .args .table .inputs) _ (at .loop .i) (turn .if1 .taken) (sym (led (c .before)) ∙ not-true _ (c .if2 .taken)))
+    sym (each-fails (at .before .args .table .inputs) _ (at .loop .i) (turn .if1 .taken)
+    (sym (led (c .before)) ∙ not-true _ (c .if2 .taken)))
 
 add-i : tie.Need-add-i Inv-loop μ-loop
 add-i c = search needs

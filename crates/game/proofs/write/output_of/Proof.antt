@@ -1,5 +1,5 @@
--- `output_of`: the loop's invariant is that none of the letters before this one leads back on every input. The measure is the number of letters left.
--- Assumes nothing.
+-- `output_of`: the loop's invariant is that none of the letters before this one leads back on every input. The measure is the number of
+-- letters left. Assumes nothing.
 use mathlib.Core.Path.{_≡_, sym, _∙_}
 use mathlib.Core.Bool.{false}
 use Prim.Native.Nat.{ℕ, _≤_, _<_, _-_, zero-le}
@@ -17,7 +17,8 @@ use Rattle.game.proofs.write.output_of.Statement.{statement}
 use Rattle.game.proofs.write.output_of.Tie as tie
 
 abbrev Inv-loop : tie.InvT-loop
-Inv-loop table k list n p letter₀ letter = (letter ≤ table .outputs) × ((o : ℕ) → o < letter → leadsBack k (tableIn table) (covered (members list n)) (cells p) o ≡ false)
+Inv-loop table k list n p letter₀ letter = (letter ≤ table .outputs)
+    × ((o : ℕ) → o < letter → leadsBack k (tableIn table) (covered (members list n)) (cells p) o ≡ false)
 
 abbrev μ-loop : tie.MeasureT-loop
 μ-loop table k list n p letter₀ letter = table .outputs - letter
@@ -33,7 +34,8 @@ unfolding outputOf leadsBack tableIn
 returns c =
     let turn = c .before .before in
     let at = turn .before .before in
-    sym (first-is (at .before .args .table .outputs) _ (at .loop .letter) (turn .if1 .taken) (sym (c .before .leads-back .ensures) ∙ c .if2 .taken) (at .loop .inv .1))
+    sym (first-is (at .before .args .table .outputs) _ (at .loop .letter) (turn .if1 .taken)
+    (sym (c .before .leads-back .ensures) ∙ c .if2 .taken) (at .loop .inv .1))
 
 add-letter : tie.Need-add-letter Inv-loop μ-loop
 add-letter c = search needs

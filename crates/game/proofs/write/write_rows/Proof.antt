@@ -1,5 +1,5 @@
--- `write_rows`: the loop's invariant is `Blocks`, that the rows of the first b states in their order are written and end at `at`. The measure is the
--- number of states left. Assumes nothing.
+-- `write_rows`: the loop's invariant is `Blocks`, that the rows of the first b states in their order are written and end at `at`. The
+-- measure is the number of states left. Assumes nothing.
 use mathlib.Core.Path.{_≡_, ap, _∙_}
 use mathlib.Core.List.{List}
 use Prim.Native.Nat.{ℕ, _≤_, _<_, _+_, _-_, _*_, zero-le}
@@ -15,7 +15,8 @@ use Rattle.game.proofs.write.write_rows.Statement.{statement}
 use Rattle.game.proofs.write.write_rows.Tie as tie
 
 abbrev Inv-loop : tie.InvT-loop
-Inv-loop table k list n start controller₀ at₀ b₀ controller at b = (b ≤ n) × Blocks k (tableIn table) (members list n) start controller₀ b at controller
+Inv-loop table k list n start controller₀ at₀ b₀ controller at b = (b ≤ n)
+    × Blocks k (tableIn table) (members list n) start controller₀ b at controller
 
 abbrev μ-loop : tie.MeasureT-loop
 μ-loop table k list n start controller₀ at₀ b₀ controller at b = n - b
@@ -24,7 +25,8 @@ abbrev μ-loop : tie.MeasureT-loop
 room : (c : tie.After-state-at Inv-loop μ-loop)
     → (let at = c .before .before in
     let given = at .before .before .args in
-    (at .loop .at + given .table .inputs * 4 ≤ length (at .loop .controller)) × (given .table .inputs ≤ 8) × (32 * (at .loop .b + 1) ≤ length (given .controller .now)))
+    (at .loop .at + given .table .inputs * 4 ≤ length (at .loop .controller)) × (given .table .inputs ≤ 8)
+    × (32 * (at .loop .b + 1) ≤ length (given .controller .now)))
 unfolding tableIn
 room c =
     let at = c .before .before in
@@ -37,12 +39,16 @@ room c =
 state-now : (c : tie.After-state-at Inv-loop μ-loop) → c .state-at .result < c .before .before .before .before .args .n
 state-now c =
     let start = c .before .before .before .before in
-    rw (c .state-at .ensures) (state-inside (start .args .start) (start .args .n) (c .before .before .loop .b) (start .pre .1) (c .before .loop-test .taken))
+    rw (c .state-at .ensures) (state-inside (start .args .start) (start .args .n) (c .before .before .loop .b) (start .pre .1)
+    (c .before .loop-test .taken))
 
 loop-holds : tie.Need-loop-holds Inv-loop μ-loop
 loop-holds c =
-    let given = c .before .args in
-    (zero-le, blocks-none (given .k) (tableIn (given .table)) (members (given .list .now) (given .n)) (given .start) (given .controller .now))
+    let given = c .before .args in (
+      zero-le,
+      blocks-none (given .k) (tableIn (given .table)) (members (given .list .now) (given .n)) (given .start)
+          (given .controller .now),
+    )
 
 state-at-requires : tie.Need-state-at-requires Inv-loop μ-loop
 state-at-requires c κs = search needs
@@ -83,8 +89,10 @@ loop-again c =
     let given = at .before .before .args in
     let fits = room called in (
       omega (arith, called .before .loop-test .taken),
-      blocks-next (given .k) (tableIn (given .table)) (members (given .list .now) (given .n)) (given .start) (given .controller .now) (at .loop .b) (at .loop .at)
-          (called .state-at .result) (at .loop .controller) (wrote .write-state .last .1 .1 .1 .1 .1 .0) (at .loop .inv .1) (fits .1) (fits .2) (called .state-at .ensures)
+      blocks-next (given .k) (tableIn (given .table)) (members (given .list .now) (given .n)) (given .start) (given .controller .now)
+          (at .loop .b) (at .loop .at)
+          (called .state-at .result) (at .loop .controller) (wrote .write-state .last .1 .1 .1 .1 .1 .0) (at .loop .inv .1) (fits .1)
+          (fits .2) (called .state-at .ensures)
           (wrote .write-state .ensures),
     )
 
@@ -102,7 +110,8 @@ returns c =
     let e : at .loop .b ≡ length ws = omega arith in
     at .loop .inv .1 .done
     ∙ ap (λ (l : List ℕ). written l (given .controller .now))
-    (ap (blocks (given .k) (tableIn (given .table)) ws (given .start)) e ∙ blocks-whole (given .k) (tableIn (given .table)) ws (given .start) (omega (arith, start .pre .1)))
+    (ap (blocks (given .k) (tableIn (given .table)) ws (given .start)) e
+    ∙ blocks-whole (given .k) (tableIn (given .table)) ws (given .start) (omega (arith, start .pre .1)))
 
 pub write-rows-spec : {M : Type 1} → statement M
 write-rows-spec =

@@ -1,5 +1,5 @@
--- `write_state`: the loop's invariant is that the rows of the first i inputs are written. The numbers of a row fit a byte, since the next state is one
--- of the winners. The measure is the number of inputs left. Assumes nothing.
+-- `write_state`: the loop's invariant is that the rows of the first i inputs are written. The numbers of a row fit a byte, since the next
+-- state is one of the winners. The measure is the number of inputs left. Assumes nothing.
 use mathlib.Core.Path.{_≡_, refl, sym, ap, ap₂, _∙_}
 use mathlib.Core.List.{[], _∷_, flatMap}
 use Prim.Native.Nat.{ℕ, _≤_, _<_, _+_, _-_, _*_, zero-le}
@@ -21,7 +21,8 @@ use Rattle.game.proofs.write.write_state.Statement.{statement}
 use Rattle.game.proofs.write.write_state.Tie as tie
 
 abbrev Inv-loop : tie.InvT-loop
-Inv-loop table k list n state controller₀ p output i₀ controller i = (i ≤ table .inputs) × (length controller ≡ length controller₀) × (controller ≡ written (rowBytes (tab i (rowOn k (tableIn table) (members list n) state))) controller₀)
+Inv-loop table k list n state controller₀ p output i₀ controller i = (i ≤ table .inputs) × (length controller ≡ length controller₀)
+    × (controller ≡ written (rowBytes (tab i (rowOn k (tableIn table) (members list n) state))) controller₀)
 
 abbrev μ-loop : tie.MeasureT-loop
 μ-loop table k list n state controller₀ p output i₀ controller i = table .inputs - i
@@ -35,7 +36,8 @@ output-on c =
     let given = start .args in
     let all = given .list .now in
     c .output-of .ensures
-    ∙ ap (outputOf (given .k) (tableIn (given .table)) (covered (members all (given .n)))) (sym (member-cells all (given .state) (given .n) (start .pre .1) (start .pre .0)))
+    ∙ ap (outputOf (given .k) (tableIn (given .table)) (covered (members all (given .n))))
+    (sym (member-cells all (given .state) (given .n) (start .pre .1) (start .pre .0)))
 
 -- the next state is the state's for this input
 next-on : (c : tie.After-covering Inv-loop μ-loop)
@@ -52,7 +54,8 @@ next-on c =
     let ws = members all (given .n) in
     let F = cells (getD all (given .state) []) in
     c .covering .ensures
-    ∙ covering-stepped (given .k) t (start .pre .2 .bounded) (at .before .output-of .result) (at .loop .i) F ws (cells (stepped .after-round .result))
+    ∙ covering-stepped (given .k) t (start .pre .2 .bounded) (at .before .output-of .result) (at .loop .i) F ws
+    (cells (stepped .after-round .result))
     (stepped .after-round .ensures)
     ∙ ap₂ (λ (o : ℕ) (G : Position). covering ws (afterRound (given .k) t o (at .loop .i) G)) (output-on (at .before))
     (sym (member-cells all (given .state) (given .n) (start .pre .1) (start .pre .0)))
@@ -110,7 +113,9 @@ after-round-requires : tie.Need-after-round-requires Inv-loop μ-loop
 after-round-requires c κs = c .before .before .before .before .before .before .before .before .pre .2 .bounded
 
 covering-requires : tie.Need-covering-requires Inv-loop μ-loop
-covering-requires c κs = c .before .before .before .before .before .before .before .before .before .before .pre .0
+covering-requires c κs =
+    let stepped = c .before .before in
+    stepped .before .before .before .before .before .before .before .before .pre .0
 
 mul-at : tie.Need-mul-at Inv-loop μ-loop
 mul-at c = omega (arith, fits-here c)
@@ -159,8 +164,12 @@ loop-again c =
     let filled =
     row-written old row i (at .loop .controller) (wrote .write-row .last .1 .1 .1 .1 .0)
     (given .state ∷ at .before .output-of .result ∷ i ∷ covered .covering .result ∷ []) (at .loop .inv .2) (wrote .write-row .ensures)
-    (ap₂ (λ (o n : ℕ). given .state ∷ o ∷ i ∷ n ∷ []) (output-on (at .before)) (next-on covered)) in
-    (omega arith, ap length filled ∙ written-length old (rowBytes (tab (i + 1) row)) (omega (arith, rows-length row (i + 1), start .pre .3)), filled)
+    (ap₂ (λ (o n : ℕ). given .state ∷ o ∷ i ∷ n ∷ []) (output-on (at .before)) (next-on covered)) in (
+      omega arith,
+      ap length filled ∙ written-length old (rowBytes (tab (i + 1) row))
+          (omega (arith, rows-length row (i + 1), start .pre .3)),
+      filled,
+    )
 
 same-length : tie.Need-same-length Inv-loop μ-loop
 same-length c = c .before .before .loop .inv .1

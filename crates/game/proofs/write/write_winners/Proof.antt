@@ -1,5 +1,5 @@
--- `write_winners`: the loop's invariant is that the first b bytes of the winners are written. Byte b is the count of state b % 8 of winner b / 8. The
--- measure is the number of bytes left. Assumes nothing.
+-- `write_winners`: the loop's invariant is that the first b bytes of the winners are written. Byte b is the count of state b % 8 of
+-- winner b / 8. The measure is the number of bytes left. Assumes nothing.
 use mathlib.Core.Path.{_≡_, refl, sym, ap, _∙_}
 use mathlib.Core.List.{List, []}
 use Prim.Native.Nat.{ℕ, _≤_, _-_, _*_, _/_, _%_, zero-le}
@@ -22,7 +22,8 @@ use Rattle.game.proofs.write.write_winners.Statement.{statement}
 use Rattle.game.proofs.write.write_winners.Tie as tie
 
 abbrev Inv-loop : tie.InvT-loop
-Inv-loop list n winners₀ b₀ winners b = (b ≤ 8 * n) × (length winners ≡ length winners₀) × (winners ≡ written (take b (winnersBytes (members list n))) winners₀)
+Inv-loop list n winners₀ b₀ winners b = (b ≤ 8 * n) × (length winners ≡ length winners₀)
+    × (winners ≡ written (take b (winnersBytes (members list n))) winners₀)
 
 abbrev μ-loop : tie.MeasureT-loop
 μ-loop list n winners₀ b₀ winners b = 8 * n - b
@@ -85,7 +86,9 @@ returns c =
     let old = given .winners .now in
     let ws = members (given .list .now) (given .n) in
     at .loop .inv .2
-    ∙ ap (λ (l : List ℕ). written l old) (take-all (at .loop .b) (winnersBytes ws) (omega (arith, winners-bytes ws, members-length (given .list .now) (given .n) (omega arith))))
+    ∙ ap (λ (l : List ℕ). written l old)
+    (take-all (at .loop .b) (winnersBytes ws)
+    (omega (arith, winners-bytes ws, members-length (given .list .now) (given .n) (omega arith))))
 
 pub write-winners-spec : {M : Type 1} → statement M
 write-winners-spec =

@@ -1,5 +1,5 @@
--- `append`: the loop's invariant is that `out` holds its first members still, and after them the position beside each of the first j of the list. The
--- measure is how many of the list are left. Assumes nothing.
+-- `append`: the loop's invariant is that `out` holds its first members still, and after them the position beside each of the first j of
+-- the list. The measure is how many of the list are left. Assumes nothing.
 use mathlib.Core.Path.{_≡_, refl, sym, ap, _∙_}
 use mathlib.Core.List.{_++_, map, append-assoc, append-nil, map-append}
 use Prim.Native.Nat.{_+_, _-_, _≤_, _<_, zero-le}

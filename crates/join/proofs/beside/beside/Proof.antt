@@ -1,5 +1,5 @@
--- `beside`: the loop's invariant is that `out` holds the pair's counts at the states before q: those of the first position below n, and from there on
--- those of the second. The measure is the number of states left. Assumes nothing.
+-- `beside`: the loop's invariant is that `out` holds the pair's counts at the states before q: those of the first position below n, and
+-- from there on those of the second. The measure is the number of states left. Assumes nothing.
 use mathlib.Core.Path.{sym}
 use mathlib.Core.Logic.{⊎-elim}
 use mathlib.Core.Bool.{cond}
@@ -55,7 +55,8 @@ loop-again c =
     ⊎-elim
     (λ w.
     let x = getD (given .a .now) q (pos 0) in
-    rw (w .2, from-bits x (w .1 .given)) (store x (rw (lt-ltb q n (w .0 .taken)) (sym (cells-at (given .a .now) q (c .before .loop-test .taken))))))
+    rw (w .2, from-bits x (w .1 .given))
+    (store x (rw (lt-ltb q n (w .0 .taken)) (sym (cells-at (given .a .now) q (c .before .loop-test .taken))))))
     (λ w.
     let y = getD (given .b .now) (q - n) (pos 0) in
     rw (w .2, from-bits y (w .1 .given)) (store y (rw (le-ltb q n (w .0 .left)) (sym (cells-at (given .b .now) (q - n) (omega arith))))))

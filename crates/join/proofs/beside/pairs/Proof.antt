@@ -1,5 +1,6 @@
--- `pairs`: the loop's invariant is that `out` holds the pairs of the first i of the first list, one row after another. The measure is how many of the first
--- list are left. There are as many pairs as the product of the two numbers, so that is past the room exactly if the list is. Assumes nothing.
+-- `pairs`: the loop's invariant is that `out` holds the pairs of the first i of the first list, one row after another. The measure is how
+-- many of the first list are left. There are as many pairs as the product of the two numbers, so that is past the room exactly if the
+-- list is. Assumes nothing.
 use mathlib.Core.Path.{_≡_, refl, sym, ap, ap₂, _∙_}
 use mathlib.Core.List.{[], flatMap}
 use Prim.Native.Nat.{ℕ, _+_, _-_, _*_, _≤_, zero-le}
@@ -74,7 +75,8 @@ loop-again c =
     let head = call .before .before .before .before .before in
     let given = head .before .before .args in
     let i = head .loop .i in
-    let row : (i + 1) * given .bn ≡ i * given .bn + given .bn = add-mul i 1 (given .bn) ∙ ap (λ (m : ℕ). i * given .bn + m) (one-mul (given .bn)) in (
+    let row : (i + 1) * given .bn ≡ i * given .bn + given .bn = add-mul i 1 (given .bn)
+    ∙ ap (λ (m : ℕ). i * given .bn + m) (one-mul (given .bn)) in (
       omega arith,
       call .append .kept .1 .1 .1 .1 .0 ∙ head .loop .inv .1,
       omega (arith, row, head .loop .inv .2),

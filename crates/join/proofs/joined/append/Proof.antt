@@ -1,5 +1,5 @@
--- `append` stores the renumbered records of a kind one after the other. The loop's invariant: those among the first i records are stored, from
--- the start on up to the end. The measure is the number of records that are left. Assumes nothing.
+-- `append` stores the renumbered records of a kind one after the other. The loop's invariant: those among the first i records are stored,
+-- from the start on up to the end. The measure is the number of records that are left. Assumes nothing.
 use mathlib.Core.Logic.{⊎-elim}
 use mathlib.Core.List.{flatMap}
 use Prim.Native.Nat.{_≤_, _-_, _/_}
@@ -35,7 +35,8 @@ renumber-requires c κs =
     let call = c .before .before in
     let head = call .before .before in
     let entry = head .before .before .before in (
-      low-states (now (entry .args .bytes)) (head .loop .i) (recordIn (call .at .result)) (call .before .loop-test .taken) (call .at .ensures) (entry .pre .0),
+      low-states (now (entry .args .bytes)) (head .loop .i) (recordIn (call .at .result)) (call .before .loop-test .taken)
+          (call .at .ensures) (entry .pre .0),
       entry .pre .1 .0,
     )
 
@@ -72,7 +73,8 @@ loop-again c =
       search needs,
       rw (next-record (now (args .bytes)) (head .loop .i) r (call .before .loop-test .taken) (call .at .ensures))
           (⊎-elim
-          (λ w. rw (w .6, w .7, moved-this n m (args .kind) rs r (w .0 .taken), ← w .1 .ensures) (stored-more (head .loop .inv .1) (w .3 .ensures)))
+          (λ w. rw (w .6, w .7, moved-this n m (args .kind) rs r (w .0 .taken), ← w .1 .ensures)
+          (stored-more (head .loop .inv .1) (w .3 .ensures)))
           (λ w. rw (w .1, w .2, moved-other n m (args .kind) rs r (w .0 .left)) (head .loop .inv .1))
           (c .if1 .came)),
     )
@@ -81,7 +83,8 @@ same-length : tie.Need-same-length Inv-loop μ-loop
 same-length c = stored-length (c .before .loop .inv .1)
 
 returns : tie.Need-returns Inv-loop μ-loop
-returns c = rw (all-records (now (c .before .before .before .before .args .bytes)) (c .before .loop .i) (c .loop-test .left)) at (c .before .loop .inv .1)
+returns c = rw (all-records (now (c .before .before .before .before .args .bytes)) (c .before .loop .i) (c .loop-test .left))
+    at (c .before .loop .inv .1)
 
 pub append-spec : {M : Type 1} → statement M
 append-spec =

@@ -25,7 +25,11 @@ upward-requires-3 c κs = search needs
 returns-3 : tie.Need-returns-3
 unfolding renumber
 returns-3 c =
-    rw (ne-eqb _ _ (c .before .before .before .before .before .if1 .left), ne-eqb _ _ (c .before .before .before .if2 .left), eq-eqb _ _ (c .before .if3 .taken))
+    rw (
+      ne-eqb _ _ (c .before .before .before .before .before .if1 .left),
+      ne-eqb _ _ (c .before .before .before .if2 .left),
+      eq-eqb _ _ (c .before .if3 .taken),
+    )
     (c .upward3 .ensures)
 
 upward-requires-4 : tie.Need-upward-requires-4
@@ -34,7 +38,11 @@ upward-requires-4 c κs = search needs
 returns-4 : tie.Need-returns-4
 unfolding renumber
 returns-4 c =
-    rw (ne-eqb _ _ (c .before .before .before .before .before .if1 .left), ne-eqb _ _ (c .before .before .before .if2 .left), ne-eqb _ _ (c .before .if3 .left))
+    rw (
+      ne-eqb _ _ (c .before .before .before .before .before .if1 .left),
+      ne-eqb _ _ (c .before .before .before .if2 .left),
+      ne-eqb _ _ (c .before .if3 .left),
+    )
     (c .upward4 .ensures)
 
 pub renumber-spec : {M : Type 1} → statement M

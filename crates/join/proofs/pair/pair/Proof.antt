@@ -1,5 +1,5 @@
--- `pair` answers with the first check of two tables that fails: where both tables pass 4 to 10, what is left to judge are 13 and 14, and what
--- was read of the tables states their letters and sizes. Assumes nothing.
+-- `pair` answers with the first check of two tables that fails, and with what was read of each: where both tables pass 4 to 10, what is
+-- left to judge are 13 and 14, and what was read of the tables states their letters and sizes. Assumes nothing.
 use mathlib.Core.Path.{_≡_, sym, _∙_}
 use mathlib.Core.Logic.{⊎-elim}
 use mathlib.Core.Bool.{false}
@@ -8,118 +8,165 @@ use native.Mathlib.Omega.{arith}
 use borrow.Author.Needs.{needs}
 use borrow.Author.Tests.{eq-eqb, ne-eqb, lt-ltb, le-ltb}
 use denote.Ref.{now}
+use Rattle.table.specs.declared.Checked.the-variants as T
 use Rattle.table.specs.declared.Table.{Table}
+use Rattle.table.specs.Checked.{checkedOf}
+use Rattle.meaning.specs.Checks.{tableChecks}
 use Rattle.table.proofs.Judged.{reading-checked, reading-table}
-use Rattle.join.proofs.Paired.{first-fails, second-fails, Both, lettersDiffer, letters-fail, size-fails, all-pass, few-states}
+use Rattle.join.proofs.Paired.{readings-of, first-fails, second-fails, Both, lettersDiffer, letters-fail, size-fails, all-pass}
+use Rattle.join.proofs.Paired.{few-states}
 use Rattle.join.proofs.pair.pair.Statement.{statement}
 use Rattle.join.proofs.pair.pair.Tie as tie
+
+-- where both tables are checked and read
+abbrev start : tie.After-check2 → tie.Start
+start c = c .before .before .before .before
 
 check-requires : tie.Need-check-requires
 check-requires c κs = search needs
 
+check-requires-2 : tie.Need-check-requires-2
+check-requires-2 c κs = search needs
+
 enum-known-one-checked : tie.Need-enum-known-one-checked
 enum-known-one-checked c = search needs
 
+together-requires : tie.Need-together-requires
+together-requires c κs = search needs
+
 returns : tie.Need-returns
 returns c =
-    let call = c .before .before .before in
-    let args = call .before .before .before .args in
-    sym (first-fails (now (args .first)) (now (args .second))
-    (sym (reading-checked (now (args .first)) (call .check .ensures)) ∙ c .before .one-checked .given .1))
+    let read = c .before .before .before .before in
+    let args = start read .args in
+    readings-of (now (args .first)) (now (args .second)) (c .together .ensures) (read .before .check .ensures) (read .check2 .ensures)
+    (first-fails (now (args .first)) (now (args .second))
+    (sym (reading-checked (now (args .first)) (read .before .check .ensures)) ∙ c .before .before .one-checked .given .1))
 
 enum-told : tie.Need-enum-told
 enum-told c = search needs
 
-check-requires-2 : tie.Need-check-requires-2
-check-requires-2 c κs = search needs
+-- the first table passes
+first-passes : (c : tie.After-enum-told) → checkedOf (tableChecks 0 (now (start (c .before .before) .args .first))) ≡ T.Passes
+first-passes c =
+    let read = c .before .before in
+    sym (reading-checked (now (start read .args .first)) (read .before .check .ensures)) ∙ c .enum-told .given .1
 
 enum-known-two-checked : tie.Need-enum-known-two-checked
 enum-known-two-checked c = search needs
 
+together-requires-2 : tie.Need-together-requires-2
+together-requires-2 c κs = search needs
+
 returns-2 : tie.Need-returns-2
 returns-2 c =
-    let later = c .before .before .before in
-    let call = later .before .before .before in
-    let args = call .before .before .before .args in
-    sym (second-fails (now (args .first)) (now (args .second))
-    (sym (reading-checked (now (args .first)) (call .check .ensures)) ∙ later .before .enum-told .given .1)
-    (sym (reading-checked (now (args .second)) (later .check2 .ensures)) ∙ c .before .two-checked .given .1))
+    let told = c .before .before .before .before in
+    let read = told .before .before in
+    let args = start read .args in
+    readings-of (now (args .first)) (now (args .second)) (c .together2 .ensures) (read .before .check .ensures) (read .check2 .ensures)
+    (second-fails (now (args .first)) (now (args .second)) (first-passes told)
+    (sym (reading-checked (now (args .second)) (read .check2 .ensures)) ∙ c .before .before .two-checked .given .1))
 
 enum-told-2 : tie.Need-enum-told-2
 enum-told-2 c = search needs
 
--- the tables that were read
-abbrev tables : tie.After-two → Table × Table
-tables c =
-    let second = c .before .before .before .before in
-    (second .before .before .before .check .result .table, second .check2 .result .table)
+-- where both tables have passed, at each test after that
+abbrev read-both : tie.After-enum-told2 → tie.After-check2
+read-both c = c .before .before .before .before
 
--- both tables pass, and are read
-both : (c : tie.After-two) →
-    let args = c .before .before .before .before .before .before .before .before .before .before .args in
-    Both (now (args .first)) (now (args .second)) (tables c .0) (tables c .1)
+abbrev told-1 : tie.Else1 → tie.After-enum-told2
+told-1 c = c .before .before .before .before .before
+
+abbrev told-2 : tie.Else2 → tie.After-enum-told2
+told-2 c = told-1 (c .before .before .before)
+
+-- the tables that were read
+abbrev tables : tie.After-enum-told2 → Table × Table
+tables c = (read-both c .before .check .result .table, read-both c .check2 .result .table)
+
+-- both pass
+both : (c : tie.After-enum-told2) →
+    let args = start (read-both c) .args in Both (now (args .first)) (now (args .second)) (tables c .0) (tables c .1)
 both c =
-    let second = c .before .before in
-    let first = second .before .before .before in
-    let one = first .before .before .check .ensures in
-    let two = second .before .before .check2 .ensures in
-    let args = first .before .before .before .before .before .args in
+    let told = c .before .before in
+    let one = read-both c .before .check .ensures in
+    let two = read-both c .check2 .ensures in
+    let args = start (read-both c) .args in
     record {
-      first = sym (reading-checked (now (args .first)) one) ∙ first .enum-told .given .1;
-      second = sym (reading-checked (now (args .second)) two) ∙ second .enum-told2 .given .1;
-      first-read = reading-table (now (args .first)) one (first .enum-told .given .1);
-      second-read = reading-table (now (args .second)) two (second .enum-told2 .given .1);
+      first = first-passes told;
+      second = sym (reading-checked (now (args .second)) two) ∙ c .enum-told2 .given .1;
+      first-read = reading-table (now (args .first)) one (told .enum-told .given .1);
+      second-read = reading-table (now (args .second)) two (c .enum-told2 .given .1);
     }
 
+together-requires-3 : tie.Need-together-requires-3
+together-requires-3 c κs = search needs
+
 returns-3 : tie.Need-returns-3
-returns-3 c = sym (letters-fail _ _ _ _ (both (c .before .before .before))
-    (⊎-elim (λ w. rw (ne-eqb _ _ (w .taken))) (λ w. rw (eq-eqb _ _ (w .0 .left)) (w .3 .taken)) (c .if1 .came)))
+returns-3 c =
+    let told = c .before .before .before .before .before .before in
+    let read = read-both told in
+    readings-of _ _ (c .together3 .ensures) (read .before .check .ensures) (read .check2 .ensures)
+    (letters-fail _ _ _ _ (both told)
+    (⊎-elim (λ w. rw (ne-eqb _ _ (w .taken))) (λ w. rw (eq-eqb _ _ (w .0 .left)) (w .3 .taken)) (c .before .if1 .came)))
 
 -- their letters are the same
-same-letters : (c : tie.Else2) →
-    let read = tables (c .before .before .before .before .before .before) in lettersDiffer (read .0) (read .1) ≡ false
+same-letters : (c : tie.Else2) → lettersDiffer (tables (told-2 c) .0) (tables (told-2 c) .1) ≡ false
 same-letters c = rw (eq-eqb _ _ (c .before .before .before .if1 .left)) (c .if2 .left)
 
-few-first : (c : tie.After-two) → (tables c .0 .controllers ≤ 8) × (tables c .0 .worlds ≤ 8)
+few-first : (c : tie.After-enum-told2) → (tables c .0 .controllers ≤ 8) × (tables c .0 .worlds ≤ 8)
 few-first c = few-states _ (tables c .0) (both c .first-read) (both c .first)
 
-few-second : (c : tie.After-two) → (tables c .1 .controllers ≤ 8) × (tables c .1 .worlds ≤ 8)
+few-second : (c : tie.After-enum-told2) → (tables c .1 .controllers ≤ 8) × (tables c .1 .worlds ≤ 8)
 few-second c = few-states _ (tables c .1) (both c .second-read) (both c .second)
 
 add-if3 : tie.Need-add-if3
-add-if3 c =
-    let read = c .before .before .before .before .before .before .before .before in
-    omega (arith, few-first read, few-second read)
+add-if3 c = let told = told-2 (c .before .before) in omega (arith, few-first told, few-second told)
 
 add-if4 : tie.Need-add-if4
-add-if4 c =
-    let read = c .before .before .before .before .before .before .before .before .before .before .before in
-    omega (arith, few-first read, few-second read)
+add-if4 c = let told = told-2 (c .before .before .before .before .before) in omega (arith, few-first told, few-second told)
+
+together-requires-4 : tie.Need-together-requires-4
+together-requires-4 c κs = search needs
 
 returns-4 : tie.Need-returns-4
 returns-4 c =
-    sym (size-fails _ _ _ _ (both (c .before .before .before .before .before .before .before .before .before)) (same-letters (c .before .before .before))
-    (⊎-elim (λ w. rw (lt-ltb _ _ (w .taken))) (λ w. rw (le-ltb _ _ (w .0 .left)) (w .3 .taken)) (c .if3 .came)))
+    let same = c .before .before .before .before in
+    let read = read-both (told-2 same) in
+    readings-of _ _ (c .together4 .ensures) (read .before .check .ensures) (read .check2 .ensures)
+    (size-fails _ _ _ _ (both (told-2 same)) (same-letters same)
+    (⊎-elim (λ w. rw (lt-ltb _ _ (w .taken))) (λ w. rw (le-ltb _ _ (w .0 .left)) (w .3 .taken)) (c .before .if3 .came)))
+
+together-requires-5 : tie.Need-together-requires-5
+together-requires-5 c κs = search needs
 
 returns-5 : tie.Need-returns-5
 returns-5 c =
-    sym (all-pass _ _ _ _ (both (c .before .before .before .before .before .before .before .before .before .before .before .before))
-    (same-letters (c .before .before .before .before .before .before)) (rw (le-ltb _ _ (c .before .before .before .if3 .left)) (c .if4 .left)))
+    let last = c .before in
+    let same = last .before .before .before .before .before .before in
+    let read = read-both (told-2 same) in
+    readings-of _ _ (c .together5 .ensures) (read .before .check .ensures) (read .check2 .ensures)
+    (all-pass _ _ _ _ (both (told-2 same)) (same-letters same)
+    (rw (le-ltb _ _ (last .before .before .before .if3 .left)) (last .if4 .left)))
 
 pub pair-spec : {M : Type 1} → statement M
 pair-spec =
     tie.close
     (tie.spec
     check-requires
+    check-requires-2
     enum-known-one-checked
+    together-requires
     returns
     enum-told
-    check-requires-2
     enum-known-two-checked
+    together-requires-2
     returns-2
     enum-told-2
+    together-requires-3
     returns-3
     add-if3
     add-if4
+    together-requires-4
     returns-4
+    together-requires-5
     returns-5)

@@ -40,13 +40,15 @@ abbrev μ-loop : tie.MeasureT-loop
 module _ (c : tie.After-keep-row Inv-loop μ-loop) where
   abbrev later : List Position
   later =
-      let at = c .before .before .before .before .before .before .before .before .before .before in
+      let rowed = c .before .before .before .before .before .before in
+      let at = rowed .before .before .before .before in
       let given = at .before .before .before .before .before .args in
       words-from (given .xs .now) (at .loop .i + 1) (given .xn)
 
   abbrev others : List Position
   others =
-      let at = c .before .before .before .before .before .before .before .before .before .before in
+      let rowed = c .before .before .before .before .before .before in
+      let at = rowed .before .before .before .before in
       let given = at .before .before .before .before .before .args in
       words (given .ys .now) (given .yn)
 
@@ -58,13 +60,15 @@ module _ (c : tie.After-keep-row Inv-loop μ-loop) where
 
   -- the array holds that, and the rows after it come from that to what all come to
   row-held :
-      let at = c .before .before .before .before .before .before .before .before .before .before in
+      let rowed = c .before .before .before .before .before .before in
+      let at = rowed .before .before .before .before in
       HoldsWords (at .before .before .before .before .before .args .room) with-row (c .keep-row .last .1 .1 .1 .1 .0) (c .keep-row .result)
   unfolding words
   row-held = c .keep-row .ensures
 
   stepped :
-      let at = c .before .before .before .before .before .before .before .before .before .before in
+      let rowed = c .before .before .before .before .before .before in
+      let at = rowed .before .before .before .before in
       let given = at .before .before .before .before .before .args in
       rowsOf later others with-row ≡ rowsOf (words (given .xs .now) (given .xn)) others (words (given .out .now) (given .kept))
   unfolding rowsOf
@@ -124,7 +128,8 @@ part-keep-row-end c = search needs
 
 slice-aggregate-keep-row-2 : tie.Need-slice-aggregate-keep-row-2 Inv-loop μ-loop
 slice-aggregate-keep-row-2 c =
-    let given = c .before .before .before .before .before .before .before .before .before .before .before .before .before .args in
+    let at = c .before .before .before .before .before .before .before .before in
+    let given = at .before .before .before .before .before .args in
     sym (length-take-le (given .yn) (given .ys .now) (omega arith))
 
 keep-row-requires : tie.Need-keep-row-requires Inv-loop μ-loop

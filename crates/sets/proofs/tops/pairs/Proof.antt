@@ -122,10 +122,11 @@ same-length-3 c = search needs
 returns-3 : tie.Need-returns-3
 unfolding paired
 returns-3 c =
-    let called = c .before .before .before .before .before .before .before .before .before .before .before in
+    let told = c .before .before .before .before .before .before .before in
+    let called = told .before .before .before .before in
     let second = called .before .before .before .before .before in
     let first = second .before .before .before .before .before .before .before in
-    let held = number-held (whole-kept called) (c .before .before .before .before .before .before .before .found .given .1) in
+    let held = number-held (whole-kept called) (told .found .given .1) in
     rw (first .part .ensures .2, second .part2 .ensures .2, held .1) at (c .before .before .keep-rows .ensures)
 
 pub pairs-spec : {M : Type 1} → statement M

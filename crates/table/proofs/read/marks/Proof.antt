@@ -66,7 +66,8 @@ loop-again c =
       search needs,
       w .3 ∙ ap (λ (n : ℕ). n + 1) (head .loop .inv .1) ∙ sym (states-this kind rs r (w .0 .taken)),
       w .2 ∙ ⊎-elim
-          (λ v. v .2 ∙ ap₂ (λ (l : List ℕ) (m : ℕ). set l q m) (head .loop .inv .2) (v .1 .ensures) ∙ marks-this kind rs r q (w .0 .taken) (head .loop .inv .1) (v .0 .taken))
+          (λ v. v .2 ∙ ap₂ (λ (l : List ℕ) (m : ℕ). set l q m) (head .loop .inv .2) (v .1 .ensures)
+          ∙ marks-this kind rs r q (w .0 .taken) (head .loop .inv .1) (v .0 .taken))
           (λ v. v .1 ∙ head .loop .inv .2 ∙ marks-full kind rs r (w .0 .taken) (omega (arith, v .0 .left, head .loop .inv .1)))
           (w .1 .came),
     ))

@@ -83,7 +83,8 @@ loop-again c =
 returns : tie.Need-returns Inv-loop μ-loop
 returns c =
     c .before .loop .inv .2
-    ∙ ap (λ (l : List Record). mask 8 (startsOf l)) (all-records (now (c .before .before .before .args .bytes)) (c .before .loop .i) (c .loop-test .left))
+    ∙ ap (λ (l : List Record). mask 8 (startsOf l))
+    (all-records (now (c .before .before .before .args .bytes)) (c .before .loop .i) (c .loop-test .left))
 
 pub starts-spec : {M : Type 1} → statement M
 starts-spec =

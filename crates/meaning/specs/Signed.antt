@@ -1,5 +1,5 @@
--- The counts of document 01 in its own signed numbers, as an i8 has them: "A count runs from -1 to K + 1, and -1 means that no run is
--- there."
+-- The counts of document 01 in its own signed numbers, in which the functions of one count promise their answers: "A count runs from -1 to
+-- K + 1, and -1 means that no run is there." Read one higher they are the steps of Counting.
 use mathlib.Core.Bool.{cond}
 use Prim.Native.Nat.{ℕ, _+_}
 use lib.IntN.{ℤ, pos, negsuc, _+ℤ_, _-ℤ_}
