@@ -5,23 +5,8 @@
 # calls' writes it). Prints last 'N passed, M failed'.
 set -u
 cd "$(dirname "$0")/.." || exit 2
-scratch=$(mktemp -d) || exit 2
-trap 'rm -rf "$scratch"' EXIT
-trap 'exit 2' HUP INT TERM
-
-passed=0
-failed=0
-
-holds() { # NAME COMMAND..
-    name=$1
-    shift
-    if "$@" >"$scratch/out" 2>&1; then
-        passed=$((passed + 1))
-    else
-        failed=$((failed + 1))
-        echo "FAILED: $name: $(cat "$scratch/out")"
-    fi
-}
+# shellcheck disable=SC1091
+. tests/holds.sh
 
 # The lines of README.md that are set in by four blanks and match one of some patterns, without the blanks.
 set_in() { # PATTERN..

@@ -9,7 +9,7 @@ use lib.ListN.{length, getD, take, set}
 use lib.Seq.{take-suc, length-take-le}
 use Rattle.meaning.specs.Lists.{written}
 use Rattle.meaning.proofs.Lists.{flatMap-length}
-use Rattle.game.proofs.Written.{four-stored}
+use Rattle.meaning.proofs.Stores.{four-stored}
 use Rattle.game.proofs.Rows.{flatMap-more}
 use Rattle.calls.specs.Called.{fourBytes}
 

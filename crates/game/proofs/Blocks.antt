@@ -13,7 +13,7 @@ use Rattle.meaning.specs.Counting.{Position, covered}
 use Rattle.meaning.specs.Written.{Row, rowBytes, rowsOfState, rowsFrom}
 use Rattle.meaning.proofs.Tests.{cond-cases}
 use Rattle.game.specs.Finished.{stateAt}
-use Rattle.game.proofs.Written.{tab-more, written-length, written-part}
+use Rattle.meaning.proofs.Stores.{tab-more, written-length, written-part}
 use Rattle.game.proofs.Rows.{flatMap-append, flatMap-more, rowOn, rows-on, rows-length}
 use Rattle.game.proofs.Orders.{order-tab}
 

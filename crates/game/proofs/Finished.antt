@@ -16,7 +16,8 @@ use Rattle.meaning.specs.Written.{positionBytes, winnersBytes, covering, startS
 use Rattle.meaning.specs.Answers.{refused, unsolved, answered, solved}
 use Rattle.meaning.specs.Checks.{check}
 use Rattle.meaning.proofs.Lists.{tab-length}
-use Rattle.game.specs.Finished.{finished, Bounded}
+use Rattle.steps.specs.Bounded.{Bounded}
+use Rattle.game.specs.Finished.{finished}
 use Rattle.game.proofs.Stepped.{below-same}
 
 -- the start state, by the start position in eight counts

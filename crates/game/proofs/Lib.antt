@@ -1,6 +1,4 @@
--- The laws that the proofs of the functions cite: half a round in masks, the rounds in lists, what is written, and the answer.
-pub mod Written
-pub mod Halves
+-- The laws that the proofs of the functions cite: the rounds in lists, what is written, and the answer.
 pub mod Runs
 pub mod Settled
 pub mod First

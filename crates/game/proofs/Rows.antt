@@ -14,7 +14,7 @@ use Rattle.meaning.proofs.Tests.{each-at, first-holds}
 use Rattle.meaning.proofs.Lists.{tab-length, any-at, at-member, place-found}
 use Rattle.meaning.proofs.Buffers.{rows-bytes}
 use Rattle.game.specs.Finished.{Playable}
-use Rattle.game.proofs.Written.{tab-more, written-part}
+use Rattle.meaning.proofs.Stores.{tab-more, written-part}
 
 pub flatMap-append : {A B : Type 0} (f : A → List B) (xs ys : List A) → flatMap f (xs ++ ys) ≡ flatMap f xs ++ flatMap f ys
 unfolding flatMap

@@ -1,5 +1,5 @@
--- The position after a round as the code steps it: in eight counts, half a round at a time. It stands for the definition's, so a list
--- covers the one exactly where it covers the other, and by the same member. Assumes nothing.
+-- A position in eight counts and the position that it stands for: a list covers the one exactly where it covers the other, and by the same
+-- member. Assumes nothing.
 use mathlib.Core.Path.{_≡_, refl, ap, _∙_, fun-ext}
 use mathlib.Core.Bool.{Bool}
 use mathlib.Core.List.{List}
@@ -10,25 +10,14 @@ use Rattle.meaning.specs.Table.{Table, onOutput, onInput}
 use Rattle.meaning.specs.Counting.{Position, forward, below, covered}
 use Rattle.meaning.specs.Written.{positionBytes, covering, afterRound}
 use Rattle.meaning.proofs.Steps.{forward-length}
-use Rattle.counts.proofs.Wide.{wide-count, below-counts, forward-wide}
-use Rattle.game.specs.Finished.{Bounded}
+use Rattle.counts.proofs.Wide.{wide-count, below-counts}
+use Rattle.steps.specs.Bounded.{Bounded}
 
 -- a position in eight counts is below what the position is below
 pub below-same : (F : Position) → length F ≤ 8 → below (positionBytes F) ≡ below F
 below-same F few = fun-ext (λ G. below-counts (positionBytes F) F G G (wide-count F few) (λ q. refl))
 
 module _ (K : ℕ) (t : Table) (bounded : Bounded K t) (o i : ℕ) (F : Position) where
-  -- half a round at a time
-  pub round-stepped : (middle after : Position) → middle ≡ positionBytes (forward K (onOutput t o) F)
-      → after ≡ positionBytes (forward K (onInput t i) middle)
-      → after ≡ positionBytes (afterRound K t o i F)
-  unfolding afterRound
-  round-stepped middle after half whole =
-      whole
-      ∙ ap (λ (G : Position). positionBytes (forward K (onInput t i) G)) half
-      ∙ ap positionBytes (forward-wide K (onInput t i) (forward K (onOutput t o) F)
-      (rw (forward-length K (onOutput t o) F) (bounded .worlds)))
-
   module _ (ws : List Position) (after : Position) (stands : after ≡ positionBytes (afterRound K t o i F)) where
     below-stepped : below after ≡ below (afterRound K t o i F)
     unfolding afterRound

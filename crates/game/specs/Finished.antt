@@ -10,6 +10,7 @@ use Rattle.meaning.specs.Counting.{Position, covered}
 use Rattle.meaning.specs.Written.{outputOf}
 use Rattle.meaning.specs.Answers.{Solved, unsolved, answered}
 use Rattle.meaning.specs.Checks.{check, judge}
+use Rattle.steps.specs.Bounded.{Bounded}
 use Rattle.sets.specs.Engine.{Small}
 
 -- "The start state's rows come first, then the others by state": the state whose rows are number b
@@ -20,12 +21,6 @@ stateAt start b = cond (eqb b 0) start (cond (leb b start) (b - 1) b)
 unfoldable pub finished : ℕ → Table → List Position → ℕ → List ℕ → List ℕ → Solved
 finished K t ws rounds win con =
     judge (check Nothing 0 0 (eqb (length ws) 0) ∷ []) (unsolved win con) (answered K t (covered ws) ws rounds win con)
-
--- K at most 7, and at most eight states a side
-pub record Bounded (K : ℕ) (t : Table) : Type 0 where
-  pub patience : K ≤ 7
-  pub controllers : t .controllers ≤ 8
-  pub worlds : t .worlds ≤ 8
 
 -- what the rows ask: their numbers fit a byte, and each winner has an output that leads back
 pub record Playable (K : ℕ) (t : Table) (ws : List Position) : Type 0 where

@@ -1,6 +1,5 @@
 // The game: the rounds, the verdict, the winners and the controller's rows.
 pub mod finish;
-pub mod half;
 pub mod rounds;
 pub mod stage;
 pub mod write;

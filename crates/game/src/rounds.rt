@@ -1,6 +1,5 @@
 // The rounds: from the list of W(r) to that of W(r + 1) by each input and each output in turn, until
 // the list repeats.
-use crate::half;
 use counts::position;
 use sets::list;
 use sets::named;
@@ -37,7 +36,7 @@ fn all_inputs(
     let mut n = 1;
     let mut input = 0;
     while input < table.inputs {
-        let half = half::on_input(table, input);
+        let half = steps::on_input(table, input);
         input += 1;
         let found = named::cut(w, wn, half, k, a, n, room);
         let Found::Number(left) = found else {
@@ -64,7 +63,7 @@ fn all_outputs(
     let mut n = 0;
     let mut output = 0;
     while output < table.outputs {
-        let half = half::on_output(table, output);
+        let half = steps::on_output(table, output);
         output += 1;
         let found = named::widen(v, vn, half, k, b, n, room);
         let Found::Number(more) = found else {

@@ -1,5 +1,4 @@
 // The winners' bytes and the controller's rows, from the list of winners.
-use crate::half;
 use counts::count;
 use counts::position;
 use sets::list;
@@ -9,13 +8,14 @@ ghost use mathlib.Core.List.{[], _∷_};
 ghost use Prim.Native.Nat.{_*_, _≤_, _<_};
 ghost use lib.ListN.{length};
 ghost use Rattle.meaning.specs.Lists.{written};
-ghost use Rattle.meaning.specs.Written.{positionBytes, winnersBytes, covering as coveringOf, afterRound, outputOf, rowBytes, rowsOfState};
+ghost use Rattle.meaning.specs.Written.{winnersBytes, covering as coveringOf, outputOf, rowBytes, rowsOfState};
 ghost use Rattle.meaning.specs.Written.{leadsBack, rowsFrom};
 ghost use Rattle.meaning.specs.Counting.{covered};
 ghost use Rattle.counts.specs.Cells.{cells};
 ghost use Rattle.table.specs.Packed.{tableIn};
+ghost use Rattle.steps.specs.Bounded.{Bounded};
 ghost use Rattle.sets.specs.Members.{members};
-ghost use Rattle.game.specs.Finished.{stateAt, Bounded, Playable};
+ghost use Rattle.game.specs.Finished.{stateAt, Playable};
 
 // The winners: 8 bytes a position, each holding a count one higher.
 pub fn write_winners(list: &[[i8; 8]], n: usize, winners: &mut [u8])
@@ -46,15 +46,6 @@ pub fn covering(list: &[[i8; 8]], n: usize, p: &[i8; 8]) -> usize
     n
 }
 
-// The position after a round: an output, then an input.
-fn after_round(table: Table, k: usize, p: &[i8; 8], output: usize, input: usize) -> [i8; 8]
-    requires { ⌜ Bounded k (tableIn table) ⌝ }
-    ensures { λ r. ⌜ cells r ≡ positionBytes (afterRound k (tableIn table) output input (cells (now (p .entry)))) ⌝ }
-{
-    let middle = position::forward(p, half::on_output(table, output), k);
-    position::forward(&middle, half::on_input(table, input), k)
-}
-
 // Whether every input leads back into the set that the list covers, after the letter as output.
 fn leads_back(
     table: Table,
@@ -69,7 +60,7 @@ fn leads_back(
 {
     let mut i = 0;
     while i < table.inputs {
-        let after = after_round(table, k, p, letter, i);
+        let after = steps::after_round(table, k, p, letter, i);
         if !list::covers(list, n, &after) {
             return false;
         }
@@ -123,7 +114,7 @@ fn write_state(
     let output = output_of(table, k, list, n, &p);
     let mut i = 0;
     while i < table.inputs {
-        let after = after_round(table, k, &p, output, i);
+        let after = steps::after_round(table, k, &p, output, i);
         let next = covering(list, n, &after);
         let at = i * 4;
         write_row(

@@ -26,6 +26,7 @@ pub mod Answers
 pub mod Sound
 pub mod SameRecords
 -- buffers
+pub mod Stores
 pub mod Buffers
 pub mod Readings
 -- joins: two tables side by side, their records, and what follows for the calls

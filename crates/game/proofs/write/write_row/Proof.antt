@@ -2,7 +2,7 @@
 use native.Mathlib.Omega.{arith}
 use borrow.Author.Needs.{needs}
 use lib.ListN.{length-set}
-use Rattle.game.proofs.Written.{row-stored}
+use Rattle.meaning.proofs.Stores.{row-stored}
 use Rattle.game.proofs.write.write_row.Statement.{statement}
 use Rattle.game.proofs.write.write_row.Tie as tie
 

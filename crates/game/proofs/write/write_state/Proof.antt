@@ -13,7 +13,7 @@ use Rattle.counts.specs.Cells.{cells}
 use Rattle.table.specs.Packed.{tableIn}
 use Rattle.sets.specs.Members.{members}
 use Rattle.sets.proofs.Members.{members-length}
-use Rattle.game.proofs.Written.{written-length}
+use Rattle.meaning.proofs.Stores.{written-length}
 use Rattle.game.proofs.Stepped.{covering-stepped}
 use Rattle.game.proofs.Bytes.{member-cells}
 use Rattle.game.proofs.Rows.{outputOn, nextOn, rowOn, rows-length, row-written, next-inside}

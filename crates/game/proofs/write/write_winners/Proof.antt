@@ -16,7 +16,7 @@ use Rattle.counts.proofs.Signed.{from-bits}
 use Rattle.counts.proofs.Cells.{cells-at}
 use Rattle.sets.specs.Members.{members}
 use Rattle.sets.proofs.Members.{members-length}
-use Rattle.game.proofs.Written.{list-store}
+use Rattle.meaning.proofs.Stores.{list-store}
 use Rattle.game.proofs.Bytes.{bytes-at, member-cells}
 use Rattle.game.proofs.write.write_winners.Statement.{statement}
 use Rattle.game.proofs.write.write_winners.Tie as tie

@@ -1,4 +1,5 @@
-// One letter's half of a round, taken out of the table.
+// The steps of a table that was read: one letter's half of a round, and a whole round of a position.
+use counts::position;
 use counts::position::Half;
 use table::Table;
 ghost use mathlib.Core.Path.{_≡_};
@@ -6,15 +7,17 @@ ghost use Prim.Native.Nat.{_+_, _*_};
 ghost use lib.ListN.{getD};
 ghost use Rattle.meaning.specs.Lists.{tab};
 ghost use Rattle.meaning.specs.Table.{onOutput, onInput};
-ghost use Rattle.counts.specs.Cells.{halfOf};
+ghost use Rattle.meaning.specs.Written.{positionBytes, afterRound};
+ghost use Rattle.counts.specs.Cells.{cells, halfOf};
 ghost use Rattle.table.specs.Packed.{tableIn};
+ghost use Rattle.steps.specs.Bounded.{Bounded};
 
 // The half of a round on an output; past the eighth letter it has no edges.
 pub fn on_output(table: Table, letter: usize) -> Half
     ensures { λ r. ⌜ halfOf r ≡ onOutput (tableIn table) letter ⌝ }
 {
     let targets = table.output_targets;
-    let masks = masks(targets, letter);
+    let masks = targets_on(targets, letter);
     let marks = table.world_marks;
     Half {
         sources: table.controllers,
@@ -29,7 +32,7 @@ pub fn on_input(table: Table, letter: usize) -> Half
     ensures { λ r. ⌜ halfOf r ≡ onInput (tableIn table) letter ⌝ }
 {
     let targets = table.input_targets;
-    let masks = masks(targets, letter);
+    let masks = targets_on(targets, letter);
     let marks = table.controller_marks;
     Half {
         sources: table.worlds,
@@ -40,7 +43,7 @@ pub fn on_input(table: Table, letter: usize) -> Half
 }
 
 // For each state its targets on one letter.
-fn masks(targets: [u8; 64], letter: usize) -> [u8; 8]
+fn targets_on(targets: [u8; 64], letter: usize) -> [u8; 8]
     ensures { λ r. ⌜ r ≡ tab 8 (λ p. getD targets (letter * 8 + p) 0) ⌝ }
 {
     let mut masks = [0u8; 8];
@@ -53,4 +56,13 @@ fn masks(targets: [u8; 64], letter: usize) -> [u8; 8]
         p += 1;
     }
     masks
+}
+
+// The position after a round: an output, then an input.
+pub fn after_round(table: Table, k: usize, p: &[i8; 8], output: usize, input: usize) -> [i8; 8]
+    requires { ⌜ Bounded k (tableIn table) ⌝ }
+    ensures { λ r. ⌜ cells r ≡ positionBytes (afterRound k (tableIn table) output input (cells (now (p .entry)))) ⌝ }
+{
+    let middle = position::forward(p, on_output(table, output), k);
+    position::forward(&middle, on_input(table, input), k)
 }

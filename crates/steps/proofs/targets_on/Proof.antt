@@ -1,4 +1,4 @@
--- `masks`: the loop's invariant is that the first p masks are the bytes of the letter's first p states. The measure is the number of
+-- `targets_on`: the loop's invariant is that the first p masks are the bytes of the letter's first p states. The measure is the number of
 -- states left. Past the eighth letter there are no bytes. Assumes nothing.
 use mathlib.Core.Path.{_≡_, refl, sym, ap, _∙_}
 use mathlib.Core.List.{List}
@@ -8,9 +8,9 @@ use borrow.Author.Needs.{needs}
 use lib.ListN.{getD, replicate, set, List·getD-eq-default}
 use Rattle.meaning.specs.Lists.{tab, written}
 use Rattle.meaning.proofs.Lists.{tab-same}
-use Rattle.game.proofs.Written.{tab-store}
-use Rattle.game.proofs.half.masks.Statement.{statement}
-use Rattle.game.proofs.half.masks.Tie as tie
+use Rattle.meaning.proofs.Stores.{tab-store}
+use Rattle.steps.proofs.targets_on.Statement.{statement}
+use Rattle.steps.proofs.targets_on.Tie as tie
 
 abbrev Inv-loop : tie.InvT-loop
 Inv-loop letter targets masks₀ p₀ masks p = (p ≤ 8) × (masks ≡ written (tab p (λ q. getD targets (letter * 8 + q) 0)) (replicate 8 0))
@@ -61,8 +61,8 @@ returns-2 c =
     let e : at .loop .p ≡ 8 = omega arith in
     rw e at (at .loop .inv .1)
 
-pub masks-spec : {M : Type 1} → statement M
-masks-spec =
+pub targets-on-spec : {M : Type 1} → statement M
+targets-on-spec =
     tie.close
     (tie.spec
     Inv-loop

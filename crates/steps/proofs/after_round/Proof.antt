@@ -6,9 +6,9 @@ use Rattle.meaning.specs.Counting.{forward}
 use Rattle.meaning.specs.Written.{positionBytes}
 use Rattle.counts.specs.Cells.{cells}
 use Rattle.table.specs.Packed.{tableIn}
-use Rattle.game.proofs.Stepped.{round-stepped}
-use Rattle.game.proofs.write.after_round.Statement.{statement}
-use Rattle.game.proofs.write.after_round.Tie as tie
+use Rattle.steps.proofs.Stepped.{round-stepped}
+use Rattle.steps.proofs.after_round.Statement.{statement}
+use Rattle.steps.proofs.after_round.Tie as tie
 
 on-output-requires : tie.Need-on-output-requires
 on-output-requires c κs = search needs
