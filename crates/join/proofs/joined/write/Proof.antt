@@ -78,7 +78,7 @@ append-requires : tie.Need-append-requires Inv-loop μ-loop
 append-requires c κs =
     let entry = start (c .before) in
     let pass = read-joinable (now (entry .args .first)) (now (entry .args .second)) (entry .pre .0) in
-    (pass .first, (omega arith, omega (arith, room (c .before))))
+    (search needs, (omega (arith, few entry), omega (arith, room (c .before))))
 
 append-requires-2 : tie.Need-append-requires-2 Inv-loop μ-loop
 append-requires-2 c κs =
@@ -87,7 +87,7 @@ append-requires-2 c κs =
     let entry = start inside in
     let pass = read-joinable (now (entry .args .first)) (now (entry .args .second)) (entry .pre .0) in
     let stored = call .append .ensures in
-    (pass .second, (omega (arith, few entry), omega (arith, room inside, stored .ends, stored-length stored)))
+    (search needs, (omega (arith, few entry), omega (arith, room inside, stored .ends, stored-length stored)))
 
 add-kind : tie.Need-add-kind Inv-loop μ-loop
 add-kind c = search needs
