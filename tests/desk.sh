@@ -538,7 +538,7 @@ test_broken_off_check() { # SIGNAL
     edit crates/desk/src/main.rt
     echo 60 >"$kit/slow"
     rm -f "$scratch/received"
-    call timeout -s "$1" 5 env PATH="$kit/bin:$plain" RATTLE_HOME="$kit" "$tree/desk" "$owed"
+    call timeout -s "$1" 3 env PATH="$kit/bin:$plain" RATTLE_HOME="$kit" "$tree/desk" "$owed"
     rm "$kit/slow"
     holds "a check broken off by $1" grep -qF "Broken off: the program was not built." "$scratch/err"
     holds "no program is run then" test ! -e "$scratch/received"
