@@ -29,25 +29,25 @@ pub fn pair(first: &[u8], second: &[u8]) -> Readings
     let two = checks::check(second);
     let one_checked = one.checked;
     if let Checked::Fails(refusal, place) = one_checked {
-        return together(Paired::Fails(refusal, place, 1), one, two);
+        return with_tables(Paired::Fails(refusal, place, 1), one, two);
     }
     let two_checked = two.checked;
     if let Checked::Fails(refusal, place) = two_checked {
-        return together(Paired::Fails(refusal, place, 2), one, two);
+        return with_tables(Paired::Fails(refusal, place, 2), one, two);
     }
-    let a = one.table;
-    let b = two.table;
-    if a.outputs != b.outputs || a.inputs != b.inputs {
-        return together(Paired::Fails(Refusal::Letters, 0, 0), one, two);
+    let left = one.table;
+    let right = two.table;
+    if left.outputs != right.outputs || left.inputs != right.inputs {
+        return with_tables(Paired::Fails(Refusal::Letters, 0, 0), one, two);
     }
-    if 8 < a.controllers + b.controllers || 8 < a.worlds + b.worlds {
-        return together(Paired::Fails(Refusal::Size, 0, 0), one, two);
+    if 8 < left.controllers + right.controllers || 8 < left.worlds + right.worlds {
+        return with_tables(Paired::Fails(Refusal::Size, 0, 0), one, two);
     }
-    together(Paired::Passes, one, two)
+    with_tables(Paired::Passes, one, two)
 }
 
 // What the checks come to, beside the tables.
-fn together(paired: Paired, one: Reading, two: Reading) -> Readings
+fn with_tables(paired: Paired, one: Reading, two: Reading) -> Readings
     ensures { λ r. ⌜ r ≡ readings paired one two ⌝ }
 {
     let first = one.table;

@@ -31,14 +31,14 @@ check-requires-2 c κs = search needs
 enum-known-one-checked : tie.Need-enum-known-one-checked
 enum-known-one-checked c = search needs
 
-together-requires : tie.Need-together-requires
-together-requires c κs = search needs
+with-tables-requires : tie.Need-with-tables-requires
+with-tables-requires c κs = search needs
 
 returns : tie.Need-returns
 returns c =
     let read = c .before .before .before .before in
     let args = start read .args in
-    readings-of (now (args .first)) (now (args .second)) (c .together .ensures) (read .before .check .ensures) (read .check2 .ensures)
+    readings-of (now (args .first)) (now (args .second)) (c .with-tables .ensures) (read .before .check .ensures) (read .check2 .ensures)
     (first-fails (now (args .first)) (now (args .second))
     (sym (reading-checked (now (args .first)) (read .before .check .ensures)) ∙ c .before .before .one-checked .given .1))
 
@@ -54,15 +54,15 @@ first-passes c =
 enum-known-two-checked : tie.Need-enum-known-two-checked
 enum-known-two-checked c = search needs
 
-together-requires-2 : tie.Need-together-requires-2
-together-requires-2 c κs = search needs
+with-tables-requires-2 : tie.Need-with-tables-requires-2
+with-tables-requires-2 c κs = search needs
 
 returns-2 : tie.Need-returns-2
 returns-2 c =
     let told = c .before .before .before .before in
     let read = told .before .before in
     let args = start read .args in
-    readings-of (now (args .first)) (now (args .second)) (c .together2 .ensures) (read .before .check .ensures) (read .check2 .ensures)
+    readings-of (now (args .first)) (now (args .second)) (c .with-tables2 .ensures) (read .before .check .ensures) (read .check2 .ensures)
     (second-fails (now (args .first)) (now (args .second)) (first-passes told)
     (sym (reading-checked (now (args .second)) (read .check2 .ensures)) ∙ c .before .before .two-checked .given .1))
 
@@ -98,14 +98,14 @@ both c =
       second-read = reading-table (now (args .second)) two (c .enum-told2 .given .1);
     }
 
-together-requires-3 : tie.Need-together-requires-3
-together-requires-3 c κs = search needs
+with-tables-requires-3 : tie.Need-with-tables-requires-3
+with-tables-requires-3 c κs = search needs
 
 returns-3 : tie.Need-returns-3
 returns-3 c =
     let told = c .before .before .before .before .before .before in
     let read = read-both told in
-    readings-of _ _ (c .together3 .ensures) (read .before .check .ensures) (read .check2 .ensures)
+    readings-of _ _ (c .with-tables3 .ensures) (read .before .check .ensures) (read .check2 .ensures)
     (letters-fail _ _ _ _ (both told)
     (⊎-elim (λ w. rw (ne-eqb _ _ (w .taken))) (λ w. rw (eq-eqb _ _ (w .0 .left)) (w .3 .taken)) (c .before .if1 .came)))
 
@@ -125,26 +125,26 @@ add-if3 c = let told = told-2 (c .before .before) in omega (arith, few-first tol
 add-if4 : tie.Need-add-if4
 add-if4 c = let told = told-2 (c .before .before .before .before .before) in omega (arith, few-first told, few-second told)
 
-together-requires-4 : tie.Need-together-requires-4
-together-requires-4 c κs = search needs
+with-tables-requires-4 : tie.Need-with-tables-requires-4
+with-tables-requires-4 c κs = search needs
 
 returns-4 : tie.Need-returns-4
 returns-4 c =
     let same = c .before .before .before .before in
     let read = read-both (told-2 same) in
-    readings-of _ _ (c .together4 .ensures) (read .before .check .ensures) (read .check2 .ensures)
+    readings-of _ _ (c .with-tables4 .ensures) (read .before .check .ensures) (read .check2 .ensures)
     (size-fails _ _ _ _ (both (told-2 same)) (same-letters same)
     (⊎-elim (λ w. rw (lt-ltb _ _ (w .taken))) (λ w. rw (le-ltb _ _ (w .0 .left)) (w .3 .taken)) (c .before .if3 .came)))
 
-together-requires-5 : tie.Need-together-requires-5
-together-requires-5 c κs = search needs
+with-tables-requires-5 : tie.Need-with-tables-requires-5
+with-tables-requires-5 c κs = search needs
 
 returns-5 : tie.Need-returns-5
 returns-5 c =
     let last = c .before in
     let same = last .before .before .before .before .before .before in
     let read = read-both (told-2 same) in
-    readings-of _ _ (c .together5 .ensures) (read .before .check .ensures) (read .check2 .ensures)
+    readings-of _ _ (c .with-tables5 .ensures) (read .before .check .ensures) (read .check2 .ensures)
     (all-pass _ _ _ _ (both (told-2 same)) (same-letters same)
     (rw (le-ltb _ _ (last .before .before .before .if3 .left)) (last .if4 .left)))
 
@@ -155,18 +155,18 @@ pair-spec =
     check-requires
     check-requires-2
     enum-known-one-checked
-    together-requires
+    with-tables-requires
     returns
     enum-told
     enum-known-two-checked
-    together-requires-2
+    with-tables-requires-2
     returns-2
     enum-told-2
-    together-requires-3
+    with-tables-requires-3
     returns-3
     add-if3
     add-if4
-    together-requires-4
+    with-tables-requires-4
     returns-4
-    together-requires-5
+    with-tables-requires-5
     returns-5)
