@@ -10,7 +10,7 @@ use lib.Seq.{take-suc, length-take-le}
 use Rattle.meaning.specs.Lists.{written}
 use Rattle.meaning.proofs.Lists.{flatMap-length}
 use Rattle.meaning.proofs.Stores.{four-stored}
-use Rattle.game.proofs.Rows.{flatMap-more}
+use Rattle.writing.proofs.Rows.{flatMap-more}
 use Rattle.calls.specs.Called.{fourBytes}
 
 -- a field takes four bytes

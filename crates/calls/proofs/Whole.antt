@@ -27,11 +27,11 @@ use Rattle.meaning.specs.Checks.{solveChecks, pairChecks, otherLetters, tooLarg
 use Rattle.meaning.proofs.Tests.{neither-right, first-le, cond-cases}
 use Rattle.meaning.proofs.Checks.{passes-at, passes-right}
 use Rattle.meaning.proofs.Answers.{solve-passes, parts-passes}
-use Rattle.meaning.proofs.Sound.{Sound, states-top, passes-sound, passes-paired}
+use Rattle.meaning.proofs.Sound.{sound-small, passes-small, passes-paired}
 use Rattle.meaning.proofs.Buffers.{winners-number}
 use Rattle.meaning.proofs.JoinGood.{joined-length, joined-sound}
 use Rattle.table.proofs.Records.{records-count}
-use Rattle.game.proofs.Settled.{rounds-few}
+use Rattle.rounds.proofs.Settles.{rounds-few}
 use Rattle.game.proofs.InOrder.{room-within}
 use Rattle.calls.specs.Called.{fields, fourBytes, answerBytes, numbersIn}
 use Rattle.calls.proofs.Laid.{four-length}
@@ -147,11 +147,6 @@ solved-fits K N t X win con patient few within spare =
       ),
     )
 
--- the records of a table that passes have at most 8 states a side
-sound-few : (rs : List Record) → Sound rs → tableOf rs .controllers ≤ 8
-unfolding tableOf
-sound-few rs s = states-top controller rs (s .within) (s .controllers)
-
 -- so the fields of each call's answer fit
 pub solve-fits : (bytes : List ℕ) (K N : ℕ) (win con : List ℕ) → Fit (fields (solve bytes K N win con .answer))
 unfolding solve solveChecks unsolved bound room stageChecks
@@ -170,7 +165,7 @@ solve-fits bytes K N win con =
     )
     (λ p.
     let q = solve-passes bytes K N win con p in
-    solved-fits K N t X win con (ltb-false 7 K (q .in-bound)) (sound-few rs (passes-sound 0 bytes (q .table)))
+    solved-fits K N t X win con (ltb-false 7 K (q .in-bound)) (passes-small 0 bytes (q .table) .controllers)
     (room-within N win con (q .roomy) .1)
     (passes-at (stageChecks 0 K N t X) (q .stage) 0 (bound 0) (lit< tt)))
 
@@ -198,7 +193,7 @@ parts-fits one two K N win con =
     (λ p.
     let q = parts-passes one two K N win con p in
     solved-fits K N both X win con (ltb-false 7 K (q .in-bound))
-    (sound-few rs (joined-sound (recordsOf one) (recordsOf two) (passes-paired one two (q .pair))))
+    (sound-small rs (joined-sound (recordsOf one) (recordsOf two) (passes-paired one two (q .pair))) .controllers)
     (room-within N win con (q .roomy) .1) (passes-at (stageChecks 0 K N both X) (q .last-stage) 0 (bound 0) (lit< tt)))
 
 pub join-fits : (one two out : List ℕ) → Fit (fields (join one two out .answer))

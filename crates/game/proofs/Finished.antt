@@ -18,7 +18,7 @@ use Rattle.meaning.specs.Checks.{check}
 use Rattle.meaning.proofs.Lists.{tab-length}
 use Rattle.steps.specs.Bounded.{Bounded}
 use Rattle.game.specs.Finished.{finished}
-use Rattle.game.proofs.Stepped.{below-same}
+use Rattle.writing.proofs.Stepped.{below-same}
 
 -- the start state, by the start position in eight counts
 pub start-stepped : (K : ℕ) (t : Table) → Bounded K t → (ws : List Position) (F : Position) → F ≡ positionBytes (startPosition K t)
@@ -26,7 +26,7 @@ pub start-stepped : (K : ℕ) (t : Table) → Bounded K t → (ws : List Positio
 unfolding covering startState startPosition
 start-stepped K t bounded ws F e =
     ap (λ (G : Position). covering ws G) e
-    ∙ ap (λ (f : Position → Bool). place f ws) (below-same (startPosition K t) (rw (tab-length (t .controllers) _) (bounded .controllers)))
+    ∙ ap (λ (f : Position → Bool). place f ws) (below-same (startPosition K t) (rw (tab-length (t .controllers) _) (bounded .small .controllers)))
 
 module _ (K : ℕ) (t : Table) (ws : List Position) (rounds : ℕ) (win con : List ℕ) (n : ℕ) (number : length ws ≡ n) where
   pub finished-nothing : n ≡ 0 → solved (refused (check Nothing 0 0 true)) win con ≡ finished K t ws rounds win con

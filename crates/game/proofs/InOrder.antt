@@ -14,25 +14,24 @@ use Rattle.meaning.specs.declared.Answer.{Answer}
 use Rattle.meaning.specs.declared.Refusal.{Refusal}
 use Rattle.meaning.specs.declared.Refusal.the-variants.{Bound, Room, Full}
 use Rattle.meaning.specs.Records.{recordsOf, output, input}
-use Rattle.meaning.specs.Table.{Table, tableOf}
+use Rattle.meaning.specs.Table.{Table, tableOf, Small}
 use Rattle.meaning.specs.Rounds.{Set, FirstSet}
 use Rattle.meaning.specs.Answers.{refused, Solved, unsolved, solvedFrom, solved}
 use Rattle.meaning.specs.Checks.{Check, check, judge, bound, room, tableChecks, stageChecks, Passes}
 use Rattle.meaning.proofs.Tests.{neither-left, neither-right}
 use Rattle.meaning.proofs.Records.{letters-top}
 use Rattle.meaning.proofs.Checks.{judge-passes, judge-append}
-use Rattle.meaning.proofs.Sound.{passes-sound, passes-good}
+use Rattle.meaning.proofs.Sound.{passes-sound, passes-good, passes-small}
 use Rattle.table.specs.declared.Checked.the-variants.{Fails}
 use Rattle.table.specs.Checked.{checkedOf}
 use Rattle.table.proofs.Judged.{byChecked, failedCheck, judge-checked}
-use Rattle.sets.specs.Members.{members}
-use Rattle.sets.specs.Engine.{Small}
-use Rattle.game.specs.Rounds.{Settles}
-use Rattle.game.specs.Finished.{finished, Playable, Roomy, Fit}
-use Rattle.game.specs.declared.rounds.Settled.{Settled}
-use Rattle.game.specs.declared.rounds.Settled.the-variants.{After, Full as FullAfter}
-use Rattle.game.proofs.First.{passes-small}
-use Rattle.game.proofs.Settled.{full-settled, after-settled}
+use Rattle.lists.specs.Members.{members}
+use Rattle.rounds.specs.Rounds.{Settles}
+use Rattle.game.specs.Finished.{finished, Roomy, Fit}
+use Rattle.writing.specs.Playable.{Playable}
+use Rattle.rounds.specs.declared.Settled.{Settled}
+use Rattle.rounds.specs.declared.Settled.the-variants.{After, Full as FullAfter}
+use Rattle.rounds.proofs.Settles.{full-settled, after-settled}
 use Rattle.game.proofs.Listed.{stage-finished, listed-playable, listed-roomy}
 
 -- checks 2 and 3, before any others

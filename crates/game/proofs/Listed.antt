@@ -13,12 +13,11 @@ use borrow.Author.Tests.{ltb-false}
 use Rattle.meaning.specs.declared.Verdict.the-variants.{Realizable, Unrealizable}
 use Rattle.meaning.specs.declared.Refusal.the-variants.{Nothing}
 use Rattle.meaning.specs.Lists.{any, place, written}
-use Rattle.meaning.specs.Table.{Table, onOutput, onInput, Good}
+use Rattle.meaning.specs.Table.{Table, onOutput, onInput, Good, Small}
 use Rattle.meaning.specs.Counting.{Position, count, forward, below, covered}
 use Rattle.meaning.specs.Rounds.{Set, winning, rounds, full, FirstSet}
 use Rattle.meaning.specs.Written.{Row, positionBytes, winners, winnersBytes, covering, afterRound, outputOf, startState, rowBytes}
-use Rattle.meaning.specs.Written.{rowsOfState, controllerRows, stateOrder}
-use Rattle.meaning.specs.Written.{leadsBack, rowsFrom}
+use Rattle.meaning.specs.Written.{rowsOfState, controllerRows, stateOrder, leadsBack, rowsFrom}
 use Rattle.meaning.specs.Answers.{Solved, unsolved, solvedFrom, answered}
 use Rattle.meaning.specs.Checks.{check, judge, stageChecks, room}
 use Rattle.meaning.proofs.Tests.{neither-left, neither-right, same-test, each-same, first-same}
@@ -28,10 +27,10 @@ use Rattle.meaning.proofs.Rounds.{winning-down, winning-safe}
 use Rattle.meaning.proofs.Maximal.{member-in, climb}
 use Rattle.meaning.proofs.Rows.{output-letter, winner-wins}
 use Rattle.counts.proofs.Wide.{wide-count, wide-of-wide, below-counts, forward-counts}
-use Rattle.sets.specs.Engine.{Small}
 use Rattle.sets.proofs.Engine.{members-sized}
-use Rattle.game.specs.Finished.{finished, Playable, Roomy}
-use Rattle.game.proofs.Bytes.{getD-inside}
+use Rattle.game.specs.Finished.{finished, Roomy}
+use Rattle.writing.specs.Playable.{Playable}
+use Rattle.writing.proofs.Bytes.{getD-inside}
 
 -- a search over members that were changed to ones alike
 module _ {A : Type 0} (f : A → Bool) (g : A → A) where
@@ -185,7 +184,7 @@ module _ (K : ℕ) (t : Table) (X : Set) (small : Small t) (first : FirstSet K t
   pub listed-playable : Good t → K ≤ 7 → t .outputs ≤ 8 → t .inputs ≤ 8 → length (winners K t X) ≤ 256 → Playable K t listed
   listed-playable good patience outputs inputs number =
       record {
-        bounded = record { patience = patience; controllers = small .controllers; worlds = small .worlds };
+        bounded = record { patience = patience; small = small };
         outputs = outputs;
         inputs = inputs;
         winners = rw listed-length number;

@@ -1,3 +1,2 @@
--- How the rounds, the winners and the rows stand in code.
-pub mod Rounds
+-- How a stage ends, in code.
 pub mod Finished

@@ -1,5 +1,4 @@
 // From the settled list to the answer. Nothing can be refused any more once a byte is written.
-use crate::write;
 use counts::position;
 use meaning::Answer;
 use meaning::Refusal;
@@ -12,8 +11,9 @@ ghost use lib.ListN.{length};
 ghost use Rattle.meaning.specs.Answers.{refused as refusedBy, solved};
 ghost use Rattle.meaning.specs.Checks.{check};
 ghost use Rattle.table.specs.Packed.{tableIn};
-ghost use Rattle.sets.specs.Members.{members};
-ghost use Rattle.game.specs.Finished.{finished, Playable, Roomy};
+ghost use Rattle.lists.specs.Members.{members};
+ghost use Rattle.game.specs.Finished.{finished, Roomy};
+ghost use Rattle.writing.specs.Playable.{Playable};
 
 // A refusal's answer: rounds, winners and start are 0.
 pub fn refused(refusal: Refusal, place: usize, which: usize) -> Answer
@@ -46,8 +46,8 @@ pub fn finish(
     if n == 0 {
         return refused(Refusal::Nothing, 0, 0);
     }
-    write::write_winners(list, n, winners);
-    let start = write::covering(
+    writing::write_winners(list, n, winners);
+    let start = writing::covering(
         list,
         n,
         &position::start(table.starts, table.controllers, k),
@@ -61,7 +61,7 @@ pub fn finish(
             winners: n,
         };
     }
-    write::write_rows(table, k, list, n, start, controller);
+    writing::write_rows(table, k, list, n, start, controller);
     Answer {
         verdict: Verdict::Realizable(start),
         place: 0,

@@ -1,8 +1,6 @@
-// The game: the rounds, the verdict, the winners and the controller's rows.
+// The game: from a table to the verdict, with the winners and the controller's rows written.
 pub mod finish;
-pub mod rounds;
 pub mod stage;
-pub mod write;
 
 use counts::position;
 use meaning::Answer;

@@ -1,9 +1,8 @@
 // One stage: from a table that was read and its first list to what the rounds come to.
 use crate::finish;
-use crate::rounds;
-use crate::rounds::Settled;
 use meaning::Answer;
 use meaning::Refusal;
+use rounds::Settled;
 use table::Table;
 ghost use mathlib.Core.Path.{_≡_};
 ghost use mathlib.Core.Bool.{false};
@@ -12,8 +11,8 @@ ghost use lib.ListN.{length};
 ghost use Rattle.meaning.specs.Checks.{room as roomFor};
 ghost use Rattle.meaning.specs.Answers.{solved, staged};
 ghost use Rattle.table.specs.Packed.{tableIn};
-ghost use Rattle.sets.specs.Members.{members};
-ghost use Rattle.game.specs.Rounds.{coveredBy, FirstList};
+ghost use Rattle.lists.specs.Members.{members};
+ghost use Rattle.rounds.specs.Rounds.{coveredBy, FirstList};
 ghost use Rattle.game.specs.Finished.{Fit};
 
 // The rounds from the first n of a list, and then the winners, the rows and the answer; or FULL.

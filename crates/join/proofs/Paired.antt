@@ -21,7 +21,7 @@ use Rattle.meaning.proofs.Records.{inside-bytes}
 use Rattle.meaning.specs.Checks as N
 use Rattle.meaning.proofs.Checks as C
 use Rattle.meaning.proofs.Checks.{Failure, first-failure, judge-passes, judge-fails, judge-append}
-use Rattle.meaning.proofs.Sound.{states-top, passes-sound, passes-first, passes-second, passes-paired}
+use Rattle.meaning.proofs.Sound.{passes-small, passes-sound, passes-first, passes-second, passes-paired}
 use Rattle.meaning.proofs.JoinGood.{joined-length}
 use Rattle.table.specs.declared.Checked.the-variants as T
 use Rattle.table.specs.declared.Table.{Table}
@@ -133,11 +133,8 @@ pub few-states : (bytes : List ℕ) (t : Table) → t ≡ packed (tableOf (recor
     → (t .controllers ≤ 8) × (t .worlds ≤ 8)
 unfolding packed tableOf
 few-states bytes t e p =
-    let sound = passes-sound 0 bytes (passes-none-fails 0 bytes p) in
-    rw e (
-      states-top controller (recordsOf bytes) (sound .within) (sound .controllers),
-      states-top world (recordsOf bytes) (sound .within) (sound .worlds),
-    )
+    let small = passes-small 0 bytes (passes-none-fails 0 bytes p) in
+    rw e (small .controllers, small .worlds)
 
 -- and each of its records is from and to a state below 8
 pub low-states : (bytes : List ℕ) (i : ℕ) (r : Record) → i < length bytes / 4 → r ≡ at (recordsOf bytes) i

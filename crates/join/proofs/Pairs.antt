@@ -15,8 +15,8 @@ use Rattle.meaning.specs.Written.{positionBytes}
 use Rattle.meaning.proofs.Lists.{tab-same, flatMap-length}
 use Rattle.meaning.proofs.PairLists.{beside}
 use Rattle.counts.proofs.Wide.{wide-at}
-use Rattle.sets.proofs.Kept.{Sized}
-use Rattle.game.proofs.Rows.{flatMap-more}
+use Rattle.lists.proofs.Members.{Sized}
+use Rattle.writing.proofs.Rows.{flatMap-more}
 use Rattle.join.specs.Beside.{besideAt, allBeside}
 
 module _ (n : ℕ) where

@@ -15,10 +15,10 @@ use Rattle.meaning.specs.Written.{winners}
 use Rattle.meaning.specs.Answers.{refused, unsolved, solved}
 use Rattle.meaning.specs.Checks.{Check, judge, stageChecks}
 use Rattle.meaning.proofs.Maximal.{some-winner}
-use Rattle.game.specs.declared.rounds.Settled.{Settled}
-use Rattle.game.specs.declared.rounds.Settled.the-variants.{After}
-use Rattle.game.specs.Rounds.{Settles}
-use Rattle.game.proofs.Settled.{after-settled}
+use Rattle.rounds.specs.declared.Settled.{Settled}
+use Rattle.rounds.specs.declared.Settled.the-variants.{After}
+use Rattle.rounds.specs.Rounds.{Settles}
+use Rattle.rounds.proofs.Settles.{after-settled}
 
 module _ {K : ℕ} {t : Table} {X : Set} {N : ℕ} {out : List (List ℤ)} {settled : Settled} (h : Settles K t X N out settled) where
   module _ {r n : ℕ} (after : settled ≡ After r n) (first : FirstSet K t X) where

@@ -11,7 +11,7 @@ use lib.ListN.{length}
 use borrow.Author.Tests.{lt-ltb, le-ltb}
 use Rattle.meaning.specs.declared.Refusal.the-variants.{Full}
 use Rattle.meaning.specs.Records.{recordsOf, output, input}
-use Rattle.meaning.specs.Table.{Table, tableOf, stated}
+use Rattle.meaning.specs.Table.{Table, tableOf, stated, Small}
 use Rattle.meaning.specs.Counting.{Position}
 use Rattle.meaning.specs.Rounds.{allSafe, winning, maximalMembers, FirstSet}
 use Rattle.meaning.specs.Written.{positionBytes, winners}
@@ -21,7 +21,7 @@ use Rattle.meaning.specs.Checks.{Check, check, judge, bound, room, stageChecks,
 use Rattle.meaning.proofs.Rounds.{allSafe-first, winning-safe}
 use Rattle.meaning.proofs.Records.{records-back, letters-top}
 use Rattle.meaning.proofs.Checks.{judge-append}
-use Rattle.meaning.proofs.Sound.{passes-good, passes-first, passes-second, passes-paired}
+use Rattle.meaning.proofs.Sound.{passes-good, passes-first, passes-second, passes-paired, passes-small}
 use Rattle.meaning.proofs.Union.{controllers-sum}
 use Rattle.meaning.proofs.Parts.{pairs-first}
 use Rattle.meaning.proofs.PairLists.{pairs-members}
@@ -30,13 +30,12 @@ use Rattle.meaning.proofs.Join.{joined-union, joined-good, joined-passes}
 use Rattle.table.specs.declared.Table as T
 use Rattle.table.specs.Packed.{tableIn, packed}
 use Rattle.table.proofs.Good.{good-table}
-use Rattle.sets.specs.Engine.{Small}
 use Rattle.sets.proofs.Engine.{stands-length, members-sized}
-use Rattle.game.specs.declared.rounds.Settled.{Settled}
-use Rattle.game.specs.declared.rounds.Settled.the-variants as S
-use Rattle.game.specs.Rounds.{coveredBy, FirstList, Settles}
+use Rattle.rounds.specs.declared.Settled.{Settled}
+use Rattle.rounds.specs.declared.Settled.the-variants as S
+use Rattle.rounds.specs.Rounds.{coveredBy, FirstList, Settles}
 use Rattle.game.specs.Finished.{Fit}
-use Rattle.game.proofs.First.{passes-small, first-covered, first-list}
+use Rattle.rounds.proofs.First.{first-covered, first-list}
 use Rattle.join.specs.Beside.{allBeside}
 use Rattle.join.specs.Parts.{FirstPairs, lastStage, inTurn}
 use Rattle.join.proofs.Pairs.{all-wide}

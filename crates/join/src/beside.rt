@@ -5,7 +5,8 @@ ghost use mathlib.Core.List.{_++_, map};
 ghost use Prim.Native.Nat.{_+_, _≤_};
 ghost use lib.ListN.{length};
 ghost use Rattle.counts.specs.Cells.{cells};
-ghost use Rattle.sets.specs.Members.{members, Holds};
+ghost use Rattle.lists.specs.Members.{members};
+ghost use Rattle.sets.specs.Held.{Holds};
 ghost use Rattle.join.specs.Beside.{besideAt, allBeside};
 
 // A position of n states, and from there on another.

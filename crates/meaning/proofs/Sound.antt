@@ -12,10 +12,9 @@ use lib.Dec.{eqb, leb, ltb, lit<}
 use borrow.Author.Tests.{eqb-true, eqb-false, eq-eqb, ne-eqb, leb-false, ltb-true, ltb-false, le-ltb, not-false}
 use Rattle.meaning.specs.Lists.{each, first}
 use Rattle.meaning.specs.Records.{Record, recordsOf, blank, at, controller, world, output, input, outside, ascends, ofKind}
-use Rattle.meaning.specs.Table.{onOutput, onInput, letters, edgeOf, tableOf, Good}
+use Rattle.meaning.specs.Table.{onOutput, onInput, letters, edgeOf, tableOf, Good, Small}
 use Rattle.meaning.specs.Checks.{bound, wrongLength, descent, misnumbered, noStart, dangling, gap, tableChecks, otherLetters}
-use Rattle.meaning.specs.Checks.{tooLarge}
-use Rattle.meaning.specs.Checks.{pairChecks, Passes}
+use Rattle.meaning.specs.Checks.{tooLarge, pairChecks, Passes}
 use Rattle.meaning.proofs.Tests.{neither-left, neither-right, clash, refuted, each-at, each-of, first-holds, first-before}
 use Rattle.meaning.proofs.Lists.{member-at, no-place, placeless}
 use Rattle.meaning.proofs.Good.{total-leads, leads-at}
@@ -158,6 +157,14 @@ sound-good rs s =
 
 pub passes-good : (which : ℕ) (bytes : List ℕ) → Passes (tableChecks which bytes) → Good (tableOf (recordsOf bytes))
 passes-good which bytes p = sound-good (recordsOf bytes) (passes-sound which bytes p)
+
+pub sound-small : (rs : List Record) → Sound rs → Small (tableOf rs)
+unfolding tableOf
+sound-small rs s =
+    record { controllers = states-top controller rs (s .within) (s .controllers); worlds = states-top world rs (s .within) (s .worlds) }
+
+pub passes-small : (which : ℕ) (bytes : List ℕ) → Passes (tableChecks which bytes) → Small (tableOf (recordsOf bytes))
+passes-small which bytes p = sound-small (recordsOf bytes) (passes-sound which bytes p)
 
 -- what the checks of two tables that are to be joined say of their records
 pub record Paired (rs ss : List Record) : Type 0 where

@@ -28,7 +28,7 @@ use Rattle.meaning.proofs.Rows.{rows-number, rows-legal, rows-keep}
 use Rattle.meaning.proofs.Checks.{first-failure}
 use Rattle.meaning.proofs.Codes.{code-refused, code-realizable, code-unrealizable}
 use Rattle.meaning.proofs.Answers.{verdictOf, Answered, solve-passes, parts-passes}
-use Rattle.meaning.proofs.Sound.{states-top, Sound, passes-sound, sound-good, Paired, passes-paired}
+use Rattle.meaning.proofs.Sound.{Sound, passes-sound, sound-good, sound-small, Paired, passes-paired}
 use Rattle.meaning.proofs.Readings.{winner-read, rows-read}
 use Rattle.meaning.specs.Calls.{winnerIn, Unrefused, code, Covers, controllerOf}
 use Rattle.meaning.specs.Demands.{Refuses, Solves}
@@ -49,7 +49,7 @@ unfolding tableOf
 table-stage K rs s =
     record {
       good = sound-good rs s;
-      few = states-top controller rs (s .within) (s .controllers);
+      few = sound-small rs s .controllers;
       first = allSafe-first K (tableOf rs);
       exact = winning-wins K (tableOf rs) (sound-good rs s);
     }

@@ -10,8 +10,7 @@ use Rattle.meaning.specs.declared.Verdict.{Verdict}
 use Rattle.meaning.specs.declared.Verdict.the-variants.{Realizable, Unrealizable, Refused}
 use Rattle.meaning.specs.declared.Refusal.{Refusal}
 use Rattle.meaning.specs.declared.Refusal.the-variants.{Bound, Room, Length, Record as Recorded, Order, States, Start, Edge, Gap}
-use Rattle.meaning.specs.declared.Refusal.the-variants.{Full}
-use Rattle.meaning.specs.declared.Refusal.the-variants.{Nothing, Letters, Size}
+use Rattle.meaning.specs.declared.Refusal.the-variants.{Full, Nothing, Letters, Size}
 use Rattle.meaning.specs.Lists.{written}
 use Rattle.meaning.specs.Table.{Table, stated}
 use Rattle.meaning.specs.Counting.{Position}

@@ -7,8 +7,7 @@ use lib.ListN.{length, getD}
 use lib.Dec.{eqb, leb, ltb}
 use Rattle.meaning.specs.declared.Refusal.{Refusal}
 use Rattle.meaning.specs.declared.Refusal.the-variants.{Bound, Room, Length, Record as Recorded, Order, States, Start, Edge, Gap}
-use Rattle.meaning.specs.declared.Refusal.the-variants.{Full}
-use Rattle.meaning.specs.declared.Refusal.the-variants.{Nothing, Letters, Size}
+use Rattle.meaning.specs.declared.Refusal.the-variants.{Full, Nothing, Letters, Size}
 use Rattle.meaning.specs.Lists.{each, some, first, place, every}
 use Rattle.meaning.specs.Records.{Record, recordsOf, at, outside, ascends, ofKind, controller, world, output, input}
 use Rattle.meaning.specs.Table.{Half, Table, onOutput, onInput, tableOf, stated}

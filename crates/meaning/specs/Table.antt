@@ -2,7 +2,7 @@
 use mathlib.Core.Path.{_≡_}
 use mathlib.Core.Bool.{Bool, true, _&&_}
 use mathlib.Core.List.{List}
-use Prim.Native.Nat.{ℕ, suc, _/_, _%_, _^_, _<_}
+use Prim.Native.Nat.{ℕ, suc, _/_, _%_, _^_, _≤_, _<_}
 use lib.ListN.{length}
 use lib.Dec.{eqb, ltb}
 use Rattle.meaning.specs.Lists.{any, largest}
@@ -83,6 +83,11 @@ pub record Good (t : Table) : Type 0 where
   pub input-ends : (i p q : ℕ) → t .inputEdge i p q ≡ true → (i < t .inputs) × (p < t .worlds) × (q < t .controllers)
   pub output-leads : (o p : ℕ) → o < t .outputs → p < t .controllers → (q : ℕ) × (t .outputEdge o p q ≡ true)
   pub input-leads : (i p : ℕ) → i < t .inputs → p < t .worlds → (q : ℕ) × (t .inputEdge i p q ≡ true)
+
+-- and at most eight states on each side, since their numbers are 0 to 7
+pub record Small (t : Table) : Type 0 where
+  pub controllers : t .controllers ≤ 8
+  pub worlds : t .worlds ≤ 8
 
 -- "The targets of one state on one letter are kept as eight bits": bit q of a mask
 unfoldable pub bit : ℕ → ℕ → Bool

@@ -14,10 +14,12 @@ use Rattle.meaning.proofs.Tests.{decided}
 use Rattle.counts.specs.Cells.{lesserCounts}
 use Rattle.sets.specs.Tops.{meets, thinned}
 use Rattle.counts.specs.Words.{countsIn}
-use Rattle.sets.specs.Members.{words, HoldsWords}
+use Rattle.lists.specs.Members.{words}
+use Rattle.sets.specs.Held.{HoldsWords}
 use Rattle.sets.specs.Candidates.{climbed, keepOne, collected, rowsOf}
 use Rattle.sets.specs.declared.tops.Found.the-variants.{Number, Full}
-use Rattle.sets.proofs.Members.{words-length, words-store, words-hold, held-full}
+use Rattle.lists.proofs.Members.{words-length, words-store}
+use Rattle.sets.proofs.Held.{words-hold, held-full}
 
 -- a run over two lists goes over one and then the other
 collected-append : (Fs l xs ys : List Position) → collected Fs l (xs ++ ys) ≡ collected Fs (collected Fs l xs) ys

@@ -9,7 +9,7 @@ use native.Mathlib.Nat.{le-refl, not-suc-le-zero}
 use native.Mathlib.Decide.{decLt}
 use native.Mathlib.Omega.{arith}
 use lib.ListN.{length, length-map}
-use Rattle.meaning.specs.Table.{Half, Table, onOutput, onInput}
+use Rattle.meaning.specs.Table.{Half, Table, onOutput, onInput, Small}
 use Rattle.meaning.specs.Counting.{Position, back}
 use Rattle.meaning.specs.Rounds.{Set, allSafe, setA, setB, setW, rounds, winning, maximalMembers, full, Crowded, Down, Within, FirstSet}
 use Rattle.meaning.specs.Rounds.{in-A, in-B, in-W}
@@ -17,14 +17,14 @@ use Rattle.meaning.specs.Written.{positionBytes, winners}
 use Rattle.meaning.proofs.Tests.{refuted, below-last}
 use Rattle.meaning.proofs.Steps.{back-length}
 use Rattle.meaning.proofs.Positions.{allSafe-length}
-use Rattle.meaning.proofs.Rounds.{setA-safe, setB-safe}
-use Rattle.meaning.proofs.Rounds.{setW-down, setW-safe, rounds-bound, rounds-settled, rounds-smallest}
+use Rattle.meaning.proofs.Rounds.{setA-safe, setB-safe, setW-down, setW-safe, rounds-bound, rounds-settled, rounds-smallest}
 use Rattle.meaning.proofs.Maximal.{member-in, members-determine, members-same}
 use Rattle.meaning.proofs.Full.{full-exactly}
 use Rattle.counts.proofs.Wide.{wide-at, wide-same, back-reads}
 use Rattle.sets.specs.Tops.{tops, meets}
-use Rattle.sets.specs.Engine.{Small, StandsFor, backWide, cutBy, widenBy, brim, listA, listB, nextList}
-use Rattle.sets.proofs.Kept.{Sized, append-sized}
+use Rattle.sets.specs.Engine.{StandsFor, backWide, cutBy, widenBy, brim, listA, listB, nextList}
+use Rattle.lists.proofs.Members.{Sized}
+use Rattle.sets.proofs.Kept.{append-sized}
 use Rattle.sets.proofs.Meets.{meets-sized}
 use Rattle.sets.proofs.Widened.{tops-wide, meets-wide}
 use Rattle.sets.proofs.Letters.{allSafe-brim, setA-none, setA-cut, setB-none, setB-widen}

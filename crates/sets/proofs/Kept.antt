@@ -13,12 +13,10 @@ use Rattle.meaning.proofs.Tests.{clash, decided, either-left, either-right, eit
 use Rattle.meaning.proofs.Lists.{every-at, every-of, keep-member, keep-holds, keep-of}
 use Rattle.meaning.proofs.Steps.{below-refl, below-antisym}
 use Rattle.meaning.proofs.Ascending.{ascending-equal}
-use Rattle.sets.specs.Tops.{put, top, tops}
-use Rattle.sets.proofs.Put.{member-put, put-ascends, gathered-member, member-gathered, gathered-ascends}
-
--- all positions of a list have n counts
-abbrev pub Sized : ℕ → List Position → Type 0
-Sized n Fs = (F : Position) → List·Memᴰ F Fs → length F ≡ n
+use Rattle.lists.proofs.Members.{Sized}
+use Rattle.lists.specs.Sorted.{put}
+use Rattle.sets.specs.Tops.{top, tops}
+use Rattle.lists.proofs.Put.{member-put, put-ascends, gathered-member, member-gathered, gathered-ascends}
 
 -- a list keeps maximal ones of Fs, ascending
 pub record Kept (Fs l : List Position) : Type 0 where

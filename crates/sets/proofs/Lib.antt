@@ -1,7 +1,4 @@
 -- The laws that belong to no one function, each after those it cites.
-pub mod Put
-pub mod Insert
-pub mod Sorted
 pub mod Kept
 pub mod Climb
 pub mod Meets
@@ -15,8 +12,6 @@ pub mod Widened
 pub mod Letters
 pub mod Rounded
 pub mod Engine
-pub mod Firsts
-pub mod Members
-pub mod OneMore
+pub mod Held
 pub mod Collect
 pub mod Ordered

@@ -8,7 +8,7 @@ use Rattle.meaning.proofs.Lists.{flatMap-member, member-flatMap}
 use Rattle.counts.specs.Cells.{lesserCounts}
 use Rattle.counts.proofs.Lesser.{lesser-length}
 use Rattle.sets.specs.Tops.{meets}
-use Rattle.sets.proofs.Kept.{Sized}
+use Rattle.lists.proofs.Members.{Sized}
 
 -- the members of the pairs' lesser counts
 pub meets-member : (Fs Gs : List Position) (F G : Position) → List·Memᴰ F Fs → List·Memᴰ G Gs → List·Memᴰ (lesserCounts F G) (meets Fs Gs)

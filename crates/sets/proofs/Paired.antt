@@ -16,11 +16,13 @@ use Rattle.meaning.proofs.Lists.{any-at, keep-member, keep-holds, keep-of}
 use Rattle.meaning.proofs.Ascending.{keep-ascends}
 use Rattle.meaning.proofs.Steps.{below-refl, below-trans, below-antisym}
 use Rattle.counts.specs.Cells.{lesserCounts}
-use Rattle.sets.specs.Tops.{tops, meets, thinned, sorted}
+use Rattle.sets.specs.Tops.{tops, meets, thinned}
+use Rattle.lists.specs.Sorted.{sorted}
 use Rattle.sets.specs.Candidates.{uncovered, collected, rowsOf, paired}
 use Rattle.counts.proofs.Lesser.{lesser-length, lesser-left, lesser-right, lesser-of}
-use Rattle.sets.proofs.Sorted.{reverse-member, member-reverse}
-use Rattle.sets.proofs.Kept.{Sized, Kept, Covered}
+use Rattle.lists.proofs.Sorted.{reverse-member, member-reverse}
+use Rattle.lists.proofs.Members.{Sized}
+use Rattle.sets.proofs.Kept.{Kept, Covered}
 use Rattle.sets.proofs.Climb.{Climbing}
 use Rattle.sets.proofs.Meets.{meets-member, member-meets, meets-within, meets-sized}
 use Rattle.sets.proofs.SameTops.{Alone, own-kept, own-alone}

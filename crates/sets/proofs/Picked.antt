@@ -13,10 +13,12 @@ use Rattle.meaning.specs.Counting.{Position, below, covered}
 use Rattle.meaning.proofs.Tests.{clash, cond-cases}
 use Rattle.meaning.proofs.Lists.{any-at, any-of}
 use Rattle.meaning.proofs.Steps.{below-refl, below-trans}
-use Rattle.sets.specs.Tops.{tops, sorted}
+use Rattle.sets.specs.Tops.{tops}
+use Rattle.lists.specs.Sorted.{sorted}
 use Rattle.sets.specs.Candidates.{climbed, keepOne, collected}
-use Rattle.sets.proofs.Sorted.{sorted-more, sorted-own, sorted-member, member-sorted, put-new}
-use Rattle.sets.proofs.Kept.{Sized, Kept, Covered, kept-put, top-alone, tops-only}
+use Rattle.lists.proofs.Sorted.{sorted-more, sorted-own, sorted-member, member-sorted, put-new}
+use Rattle.lists.proofs.Members.{Sized}
+use Rattle.sets.proofs.Kept.{Kept, Covered, kept-put, top-alone, tops-only}
 use Rattle.sets.proofs.Climb.{Climbing, climbed-above, climbed-top}
 
 -- a list keeps maximal ones of Fs, each once

@@ -20,9 +20,10 @@ use Rattle.meaning.proofs.Positions.{allSafe-safe}
 use Rattle.counts.proofs.Wide.{wide-at, wide-length}
 use Rattle.sets.specs.Tops.{tops, meets}
 use Rattle.sets.specs.Engine.{backWide, cutBy, widenBy, brim, listA, listB}
-use Rattle.sets.specs.Members.{Low}
+use Rattle.lists.specs.Members.{Low}
 use Rattle.counts.proofs.Lesser.{lesser-at}
-use Rattle.sets.proofs.Kept.{Sized, member-tops, tops-one, append-sized, tops-sized}
+use Rattle.lists.proofs.Members.{Sized}
+use Rattle.sets.proofs.Kept.{member-tops, tops-one, append-sized, tops-sized}
 use Rattle.sets.proofs.Letters.{brim-safe}
 use Rattle.sets.proofs.Meets.{member-meets, meets-sized}
 use Rattle.sets.proofs.SameTops.{tops-again}

@@ -8,7 +8,8 @@ use Prim.Native.Nat.{ℕ}
 use Rattle.meaning.specs.Counting.{Position, below}
 use Rattle.meaning.proofs.Steps.{below-refl, below-trans, below-antisym}
 use Rattle.sets.specs.Tops.{tops}
-use Rattle.sets.proofs.Kept.{Sized, Covered, Kept, member-tops, tops-kept, tops-only}
+use Rattle.lists.proofs.Members.{Sized}
+use Rattle.sets.proofs.Kept.{Covered, Kept, member-tops, tops-kept, tops-only}
 use Rattle.sets.proofs.Climb.{tops-cover}
 
 -- no position of a list is above another

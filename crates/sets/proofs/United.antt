@@ -14,9 +14,11 @@ use Rattle.meaning.proofs.Tests.{clash, decided}
 use Rattle.meaning.proofs.Lists.{any-at, any-of, keep-member, keep-holds, keep-of}
 use Rattle.meaning.proofs.Ascending.{keep-ascends}
 use Rattle.meaning.proofs.Steps.{below-refl, below-trans}
-use Rattle.sets.specs.Tops.{tops, sorted}
+use Rattle.sets.specs.Tops.{tops}
+use Rattle.lists.specs.Sorted.{sorted}
 use Rattle.sets.specs.Candidates.{uncovered, united}
-use Rattle.sets.proofs.Kept.{Sized, Kept, Covered, append-sized}
+use Rattle.lists.proofs.Members.{Sized}
+use Rattle.sets.proofs.Kept.{Kept, Covered, append-sized}
 use Rattle.sets.proofs.Climb.{Climbing}
 use Rattle.sets.proofs.SameTops.{Alone, own-kept, own-alone}
 use Rattle.sets.proofs.Picked.{collected-covers, picked-own, collected-picked, picked-tops}

@@ -13,7 +13,8 @@ use Rattle.counts.specs.Cells.{lesserCounts}
 use Rattle.counts.proofs.Wide.{wide-length, below-wide, before-wide}
 use Rattle.sets.specs.Tops.{tops, meets}
 use Rattle.counts.proofs.Lesser.{wide-lesser}
-use Rattle.sets.proofs.Kept.{Sized, Covered, member-tops, tops-kept, tops-only, tops-sized}
+use Rattle.lists.proofs.Members.{Sized}
+use Rattle.sets.proofs.Kept.{Covered, member-tops, tops-kept, tops-only, tops-sized}
 use Rattle.sets.proofs.Climb.{tops-cover}
 
 -- in eight counts: the tops of positions with at most eight counts, widened, are the tops of the widened

@@ -1,18 +1,13 @@
 -- The rounds as the engine keeps them: lists of positions in eight counts, cut and widened letter by letter.
 use mathlib.Core.Path.{_≡_}
 use mathlib.Core.List.{List, [], _∷_, _++_, map}
-use Prim.Native.Nat.{ℕ, zero, suc, _+_, _≤_}
+use Prim.Native.Nat.{ℕ, zero, suc, _+_}
 use Rattle.meaning.specs.Lists.{tab}
 use Rattle.meaning.specs.Table.{Half, Table, onOutput, onInput}
 use Rattle.meaning.specs.Counting.{Position, back}
 use Rattle.meaning.specs.Rounds.{Set, maximalMembers}
 use Rattle.meaning.specs.Written.{positionBytes}
 use Rattle.sets.specs.Tops.{tops, meets}
-
--- a table of at most eight states on each side
-pub record Small (t : Table) : Type 0 where
-  pub controllers : t .controllers ≤ 8
-  pub worlds : t .worlds ≤ 8
 
 -- a list stands for a set of positions of n states: it has the maximal members, in eight counts
 abbrev pub StandsFor : ℕ → ℕ → Set → List Position → Type 0

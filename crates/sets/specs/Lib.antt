@@ -1,5 +1,5 @@
--- What the contracts of this crate cite beside the definitions of `meaning` and `counts`.
+-- What the contracts of this crate cite beside the definitions of `meaning`, `counts` and `lists`.
 pub mod Tops
 pub mod Engine
-pub mod Members
+pub mod Held
 pub mod Candidates

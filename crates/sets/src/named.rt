@@ -2,10 +2,10 @@
 // member of the set that the letter leads into is stepped back once.
 use crate::tops;
 use crate::tops::Found;
-use crate::words;
 use counts::position;
 use counts::position::Half;
 use counts::word;
+use lists::words;
 ghost use mathlib.Core.Path.{_≡_};
 ghost use mathlib.Core.List.{map};
 ghost use Prim.Native.Nat.{_≤_};
@@ -13,7 +13,8 @@ ghost use lib.ListN.{length};
 ghost use Rattle.counts.specs.Cells.{halfOf};
 ghost use Rattle.sets.specs.Tops.{tops as topsOf, thinned};
 ghost use Rattle.sets.specs.Engine.{backWide, cutBy, widenBy};
-ghost use Rattle.sets.specs.Members.{words as wordsOf, members, Holds, Low, Storable, StoredInOrder};
+ghost use Rattle.lists.specs.Members.{words as wordsOf, members, Low};
+ghost use Rattle.sets.specs.Held.{Holds, Storable, StoredInOrder};
 
 // The m members of the set that a letter leads into stepped back, but for those that another is above.
 fn led_back(into: &[[i8; 8]], m: usize, half: Half, k: usize, out: &mut [u64]) -> usize

@@ -1,8 +1,8 @@
 // The maximal ones of the lesser counts of all pairs of two lists, and of two lists together. A
 // candidate that a kept position covers is passed over; any other is climbed to a maximal one and
 // kept. So each kept one is maximal, and the room's next one is FULL.
-use crate::words;
 use counts::word;
+use lists::words;
 ghost use mathlib.Core.Path.{_≡_};
 ghost use mathlib.Core.Bool.{true};
 ghost use mathlib.Core.List.{[], map, reverse};
@@ -13,7 +13,8 @@ ghost use Rattle.meaning.specs.Counting.{below, covered};
 ghost use Rattle.counts.specs.Cells.{lesserCounts};
 ghost use Rattle.sets.specs.Tops.{meets, thinned};
 ghost use Rattle.counts.specs.Words.{countsIn};
-ghost use Rattle.sets.specs.Members.{words as wordsOf, HoldsWords};
+ghost use Rattle.lists.specs.Members.{words as wordsOf};
+ghost use Rattle.sets.specs.Held.{HoldsWords};
 ghost use Rattle.sets.specs.Candidates.{climbed, collected, uncovered, rowsOf, paired, united};
 
 // How many members a list came to, or that there were more than the room.

@@ -19,4 +19,4 @@ module _ (K : ℕ) (t : Table) (bounded : Bounded K t) (o i : ℕ) (F : Position
       whole
       ∙ ap (λ (G : Position). positionBytes (forward K (onInput t i) G)) half
       ∙ ap positionBytes (forward-wide K (onInput t i) (forward K (onOutput t o) F)
-      (rw (forward-length K (onOutput t o) F) (bounded .worlds)))
+      (rw (forward-length K (onOutput t o) F) (bounded .small .worlds)))

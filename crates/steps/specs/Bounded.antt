@@ -1,9 +1,8 @@
 -- What a step of a position in eight counts asks.
 use Prim.Native.Nat.{ℕ, _≤_}
-use Rattle.meaning.specs.Table.{Table}
+use Rattle.meaning.specs.Table.{Table, Small}
 
 -- K at most 7, and at most eight states a side
 pub record Bounded (K : ℕ) (t : Table) : Type 0 where
   pub patience : K ≤ 7
-  pub controllers : t .controllers ≤ 8
-  pub worlds : t .worlds ≤ 8
+  pub small : Small t

@@ -20,8 +20,8 @@ use Rattle.game.proofs.InOrder.{passes-fit}
 use Rattle.game.proofs.Solved.{solve-bound, solve-room, solve-table, solve-stage}
 use Rattle.game.proofs.solve.Statement.{statement}
 use Rattle.game.proofs.solve.Tie as tie
-use Rattle.game.proofs.First.{brim-covered, brim-first}
-use Rattle.sets.specs.Members.{members}
+use Rattle.rounds.proofs.First.{brim-covered, brim-first}
+use Rattle.lists.specs.Members.{members}
 use Rattle.sets.specs.Engine.{brim}
 
 -- the way back to the start from where 4 to 10 have passed

@@ -10,8 +10,8 @@ use Rattle.meaning.specs.Written.{startState}
 use Rattle.meaning.specs.Answers.{solved}
 use Rattle.counts.specs.Cells.{cells, startCounts}
 use Rattle.table.specs.Packed.{tableIn}
-use Rattle.sets.specs.Members.{members}
-use Rattle.sets.proofs.Members.{members-length}
+use Rattle.lists.specs.Members.{members}
+use Rattle.lists.proofs.Members.{members-length}
 use Rattle.game.proofs.Finished.{start-stepped, finished-nothing, finished-without, finished-with}
 use Rattle.game.proofs.finish.finish.Statement.{statement}
 use Rattle.game.proofs.finish.finish.Tie as tie

@@ -5,7 +5,7 @@ use native.Mathlib.Omega.{arith}
 use borrow.Author.Needs.{needs}
 use denote.Ref.{now}
 use Rattle.meaning.specs.Answers.{staged}
-use Rattle.game.proofs.Settled.{after-settled}
+use Rattle.rounds.proofs.Settles.{after-settled}
 use Rattle.game.proofs.InOrder.{room-within, settled-full, settled-playable, settled-roomy, settled-finished}
 use Rattle.game.proofs.stage.stage.Statement.{statement}
 use Rattle.game.proofs.stage.stage.Tie as tie

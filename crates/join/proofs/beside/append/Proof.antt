@@ -8,8 +8,8 @@ use native.Mathlib.Omega.{arith}
 use borrow.Author.Needs.{needs}
 use lib.ListN.{length, length-set}
 use Rattle.counts.specs.Cells.{cells}
-use Rattle.sets.specs.Members.{members}
-use Rattle.sets.proofs.Members.{members-more, members-store}
+use Rattle.lists.specs.Members.{members}
+use Rattle.lists.proofs.Members.{members-more, members-store}
 use Rattle.join.specs.Beside.{besideAt}
 use Rattle.join.proofs.beside.append.Statement.{statement}
 use Rattle.join.proofs.beside.append.Tie as tie

@@ -9,8 +9,9 @@ use native.Mathlib.Omega.{arith}
 use borrow.Author.Needs.{needs}
 use lib.ListN.{length, getD}
 use Rattle.counts.specs.Cells.{cells}
-use Rattle.sets.specs.Members.{members}
-use Rattle.sets.proofs.Members.{members-length, members-more, holds-full, holds-number}
+use Rattle.lists.specs.Members.{members}
+use Rattle.lists.proofs.Members.{members-length, members-more}
+use Rattle.sets.proofs.Held.{holds-full, holds-number}
 use Rattle.join.specs.Beside.{allBeside}
 use Rattle.join.proofs.Pairs.{all-number, all-more, row-fits}
 use Rattle.join.proofs.beside.pairs.Statement.{statement}

@@ -13,12 +13,13 @@ use Rattle.meaning.specs.Rounds.{allSafe}
 use Rattle.meaning.specs.Table.{stated}
 use Rattle.table.specs.declared.Table as T
 use Rattle.table.specs.Packed.{packed}
-use Rattle.sets.specs.Members.{members}
-use Rattle.sets.proofs.Members.{members-length, full-held, number-held}
-use Rattle.game.specs.Rounds.{Settles}
-use Rattle.game.proofs.First.{passes-small}
+use Rattle.lists.specs.Members.{members}
+use Rattle.lists.proofs.Members.{members-length}
+use Rattle.sets.proofs.Held.{full-held, number-held}
+use Rattle.rounds.specs.Rounds.{Settles}
+use Rattle.meaning.proofs.Sound.{passes-small}
 use Rattle.game.proofs.InOrder.{room-within}
-use Rattle.game.proofs.Settled.{after-settled}
+use Rattle.rounds.proofs.Settles.{after-settled}
 use Rattle.table.proofs.Judged.{passes-none-fails}
 use Rattle.join.specs.Beside.{allBeside}
 use Rattle.join.specs.Parts.{FirstPairs}

@@ -10,11 +10,10 @@ use lib.ListN.{length, take}
 use lib.Seq.{take-append-seam}
 use Rattle.meaning.specs.Records.{recordsOf}
 use Rattle.meaning.specs.Table.{tableOf}
-use Rattle.meaning.specs.Join.{joinedTable}
+use Rattle.meaning.specs.Join.{joinedTable, joinedBytes}
 use Rattle.meaning.specs.Checks.{pairChecks, Passes}
 use Rattle.table.specs.Packed.{tableIn, packed}
-use Rattle.sets.specs.Members.{members}
-use Rattle.meaning.specs.Join.{joinedBytes}
+use Rattle.lists.specs.Members.{members}
 use Rattle.join.proofs.Paired.{none-fails, read-passes, read-joinable}
 use Rattle.join.proofs.Stages.{joined-read, pairs-covered, pairs-list, joined-fit}
 use Rattle.join.proofs.stage.last.Statement.{statement}

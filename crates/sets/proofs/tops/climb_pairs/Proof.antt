@@ -9,9 +9,9 @@ use borrow.Author.Needs.{needs}
 use lib.ListN.{length, getD}
 use Rattle.sets.specs.Tops.{meets}
 use Rattle.counts.specs.Words.{countsIn}
-use Rattle.sets.specs.Members.{words}
+use Rattle.lists.specs.Members.{words}
 use Rattle.sets.specs.Candidates.{climbed}
-use Rattle.sets.proofs.Members.{words-whole, words-more}
+use Rattle.lists.proofs.Members.{words-whole, words-more}
 use Rattle.sets.proofs.ClimbPairs.{rows-up, rows-past}
 use Rattle.sets.proofs.tops.climb_pairs.Statement.{statement}
 use Rattle.sets.proofs.tops.climb_pairs.Tie as tie

@@ -12,9 +12,9 @@ use lib.ListN.{length, getD}
 use Rattle.meaning.specs.Counting.{below}
 use Rattle.counts.specs.Cells.{lesserCounts}
 use Rattle.counts.specs.Words.{countsIn}
-use Rattle.sets.specs.Members.{words}
+use Rattle.lists.specs.Members.{words}
 use Rattle.sets.specs.Candidates.{climbed}
-use Rattle.sets.proofs.Members.{words-whole, words-more}
+use Rattle.lists.proofs.Members.{words-whole, words-more}
 use Rattle.counts.proofs.Lesser.{lesser-left}
 use Rattle.sets.proofs.ClimbPairs.{row-up, row-past}
 use Rattle.sets.proofs.tops.climb_with.Statement.{statement}

@@ -7,9 +7,9 @@ use native.Mathlib.Omega.{arith}
 use borrow.Author.Needs.{needs}
 use lib.ListN.{getD}
 use Rattle.counts.specs.Words.{countsIn}
-use Rattle.sets.specs.Members.{words}
+use Rattle.lists.specs.Members.{words}
 use Rattle.sets.specs.Candidates.{climbed}
-use Rattle.sets.proofs.Members.{words-more, words-after, words-split}
+use Rattle.lists.proofs.Members.{words-more, words-after, words-split}
 use Rattle.sets.proofs.Collect.{Collects, collects-none, collects-whole, collects-pass, collects-put, collects-full}
 use Rattle.sets.proofs.tops.keep_list.Statement.{statement}
 use Rattle.sets.proofs.tops.keep_list.Tie as tie

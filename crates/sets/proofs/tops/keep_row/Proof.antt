@@ -13,9 +13,9 @@ use Rattle.meaning.specs.Lists.{any}
 use Rattle.meaning.specs.Counting.{below, covered}
 use Rattle.sets.specs.Tops.{meets}
 use Rattle.counts.specs.Words.{countsIn}
-use Rattle.sets.specs.Members.{words}
-use Rattle.sets.proofs.Members.{words-more, words-last, words-after, words-split}
-use Rattle.sets.proofs.OneMore.{any-past, one-here}
+use Rattle.lists.specs.Members.{words}
+use Rattle.lists.proofs.Members.{words-more, words-last, words-after, words-split}
+use Rattle.lists.proofs.OneMore.{any-past, one-here}
 use Rattle.sets.proofs.Collect.{Collects, collects-none, collects-whole, collects-pass, collects-put, collects-full}
 use Rattle.sets.proofs.tops.keep_row.Statement.{statement}
 use Rattle.sets.proofs.tops.keep_row.Tie as tie

@@ -12,9 +12,10 @@ use lib.Seq.{length-take-le, drop-cons}
 use Rattle.meaning.specs.Counting.{Position}
 use Rattle.sets.specs.Tops.{meets}
 use Rattle.counts.specs.Words.{countsIn}
-use Rattle.sets.specs.Members.{words, HoldsWords}
+use Rattle.lists.specs.Members.{words}
+use Rattle.sets.specs.Held.{HoldsWords}
 use Rattle.sets.specs.Candidates.{collected, rowsOf}
-use Rattle.sets.proofs.Members.{held-full, full-held, number-held, words-hold}
+use Rattle.sets.proofs.Held.{held-full, full-held, number-held, words-hold}
 use Rattle.sets.proofs.Collect.{rows-grow}
 use Rattle.sets.proofs.tops.keep_rows.Statement.{statement}
 use Rattle.sets.proofs.tops.keep_rows.Tie as tie

@@ -7,9 +7,11 @@ use borrow.Author.Needs.{needs}
 use lib.ListN.{length}
 use Rattle.meaning.specs.Lists.{keep}
 use Rattle.meaning.specs.Counting.{covered}
-use Rattle.sets.specs.Members.{words, HoldsWords}
+use Rattle.lists.specs.Members.{words}
+use Rattle.sets.specs.Held.{HoldsWords}
 use Rattle.sets.specs.Candidates.{collected, uncovered, paired}
-use Rattle.sets.proofs.Members.{words-length, held-full, full-held, number-held}
+use Rattle.lists.proofs.Members.{words-length}
+use Rattle.sets.proofs.Held.{held-full, full-held, number-held}
 use Rattle.sets.proofs.Collect.{collected-grows, rows-grow}
 use Rattle.sets.proofs.tops.pairs.Statement.{statement}
 use Rattle.sets.proofs.tops.pairs.Tie as tie

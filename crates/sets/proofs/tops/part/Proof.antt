@@ -11,10 +11,10 @@ use lib.ListN.{length, getD, length-set}
 use Rattle.meaning.specs.Lists.{keep}
 use Rattle.meaning.specs.Counting.{covered}
 use Rattle.counts.specs.Words.{countsIn}
-use Rattle.sets.specs.Members.{words}
+use Rattle.lists.specs.Members.{words}
 use Rattle.sets.specs.Candidates.{uncovered}
-use Rattle.sets.proofs.Members.{words-more, words-store}
-use Rattle.sets.proofs.OneMore.{keep-more, keep-past}
+use Rattle.lists.proofs.Members.{words-more, words-store}
+use Rattle.lists.proofs.OneMore.{keep-more, keep-past}
 use Rattle.sets.proofs.tops.part.Statement.{statement}
 use Rattle.sets.proofs.tops.part.Tie as tie
 

@@ -10,8 +10,8 @@ use Rattle.meaning.specs.Counting.{Position}
 use Rattle.counts.specs.Cells.{lesserCounts}
 use Rattle.sets.specs.Tops.{thinned}
 use Rattle.counts.specs.Words.{countsIn}
-use Rattle.sets.specs.Members.{words}
-use Rattle.sets.proofs.Members.{words-more}
+use Rattle.lists.specs.Members.{words}
+use Rattle.lists.proofs.Members.{words-more}
 use Rattle.sets.proofs.tops.row.Statement.{statement}
 use Rattle.sets.proofs.tops.row.Tie as tie
 

@@ -6,10 +6,10 @@ use Prim.Native.Nat.{_+_, _≤_, _-_}
 use native.Mathlib.Omega.{arith}
 use borrow.Author.Needs.{needs}
 use lib.ListN.{length, getD}
-use Rattle.sets.specs.Tops.{thinOne, thinned}
+use Rattle.lists.specs.Members.{thinOne, words}
+use Rattle.sets.specs.Tops.{thinned}
 use Rattle.counts.specs.Words.{countsIn}
-use Rattle.sets.specs.Members.{words}
-use Rattle.sets.proofs.Members.{words-last}
+use Rattle.lists.proofs.Members.{words-last}
 use Rattle.sets.proofs.tops.thin.Statement.{statement}
 use Rattle.sets.proofs.tops.thin.Tie as tie
 

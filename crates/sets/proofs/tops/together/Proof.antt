@@ -7,9 +7,10 @@ use native.Mathlib.Omega.{arith}
 use borrow.Author.Needs.{needs}
 use lib.ListN.{length}
 use Rattle.meaning.specs.Lists.{keep}
-use Rattle.sets.specs.Members.{words}
+use Rattle.lists.specs.Members.{words}
 use Rattle.sets.specs.Candidates.{uncovered, united}
-use Rattle.sets.proofs.Members.{words-length, held-full}
+use Rattle.lists.proofs.Members.{words-length}
+use Rattle.sets.proofs.Held.{held-full}
 use Rattle.sets.proofs.Collect.{collected-grows}
 use Rattle.sets.proofs.tops.together.Statement.{statement}
 use Rattle.sets.proofs.tops.together.Tie as tie

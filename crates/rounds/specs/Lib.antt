@@ -1,0 +1,2 @@
+-- How the rounds stand in code.
+pub mod Rounds
