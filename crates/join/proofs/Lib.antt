@@ -1,6 +1,4 @@
 -- The laws that the proofs of the functions cite, and demand 3 for what the calls leave.
-pub mod Paired
-pub mod Appended
 pub mod Pairs
 pub mod Settles
 pub mod Stages

@@ -1,4 +1,3 @@
 -- What the contracts of this crate cite beside the definitions of the crates below.
-pub mod Joined
 pub mod Beside
 pub mod Parts

@@ -1,12 +1,12 @@
 // Positions of two tables side by side: one pair, and all pairs of two lists.
-use sets::tops::Found;
+use tops::Found;
 ghost use mathlib.Core.Path.{_≡_};
 ghost use mathlib.Core.List.{_++_, map};
 ghost use Prim.Native.Nat.{_+_, _≤_};
 ghost use lib.ListN.{length};
 ghost use Rattle.counts.specs.Cells.{cells};
 ghost use Rattle.lists.specs.Members.{members};
-ghost use Rattle.sets.specs.Held.{Holds};
+ghost use Rattle.tops.specs.Held.{Holds};
 ghost use Rattle.join.specs.Beside.{besideAt, allBeside};
 
 // A position of n states, and from there on another.

@@ -1,12 +1,11 @@
 // Two tables joined into one: the second's states are renumbered upward by the first's counts. And
 // two tables solved by parts: each alone, and the joined one held to the pairs of their winners.
 pub mod beside;
-pub mod joined;
-pub mod pair;
 pub mod stage;
 
-use crate::pair::Paired;
 use game::finish;
+use joined::pair;
+use joined::pair::Paired;
 use meaning::Answer;
 use meaning::Refusal;
 use meaning::Verdict;

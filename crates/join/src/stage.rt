@@ -1,15 +1,14 @@
 // The stages of solving by parts: each table alone, and the joined one from the pairs of their
 // winners.
 use crate::beside;
-use crate::joined;
-use crate::pair::Readings;
 use game::finish;
 use game::stage;
+use joined::pair::Readings;
 use meaning::Answer;
 use meaning::Refusal;
 use rounds::Settled;
-use sets::tops::Found;
 use table::read;
+use tops::Found;
 ghost use mathlib.Core.Path.{_≡_};
 ghost use mathlib.Core.Bool.{false};
 ghost use Prim.Native.Nat.{_≤_};
@@ -17,7 +16,7 @@ ghost use lib.ListN.{length};
 ghost use Rattle.meaning.specs.Checks.{room as roomFor};
 ghost use Rattle.meaning.specs.Answers.{solved};
 ghost use Rattle.lists.specs.Members.{members};
-ghost use Rattle.join.specs.Joined.{ReadBoth};
+ghost use Rattle.joined.specs.Joined.{ReadBoth};
 ghost use Rattle.join.specs.Parts.{FirstPairs, lastStage, inTurn};
 
 // The last stage: the rounds of the joined table from the list of pairs, and what they come to.

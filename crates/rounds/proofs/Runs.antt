@@ -12,11 +12,11 @@ use Rattle.meaning.specs.Lists.{largest}
 use Rattle.meaning.specs.Counting.{Position}
 use Rattle.meaning.proofs.Tests.{largest-at}
 use Rattle.lists.specs.Members.{members}
-use Rattle.sets.specs.Held.{Holds}
-use Rattle.sets.specs.declared.tops.Found.{Found}
-use Rattle.sets.specs.declared.tops.Found.the-variants.{Number, Full}
+use Rattle.tops.specs.Held.{Holds}
+use Rattle.tops.specs.declared.Found.{Found}
+use Rattle.tops.specs.declared.Found.the-variants.{Number, Full}
 use Rattle.lists.proofs.Members.{members-length}
-use Rattle.sets.proofs.Held.{full-held, number-held}
+use Rattle.tops.proofs.Held.{full-held, number-held}
 use Rattle.rounds.specs.Rounds.{HoldsLast}
 
 -- what the answer of a run says of the widest of its lists, and of the array

@@ -13,8 +13,8 @@ use Rattle.meaning.specs.Rounds.{Set, rounds, full, FirstSet}
 use Rattle.meaning.specs.Written.{positionBytes, winners}
 use Rattle.sets.specs.Engine.{listA, listB, StandsFor}
 use Rattle.lists.specs.Members.{members}
-use Rattle.sets.specs.declared.tops.Found.{Found}
-use Rattle.sets.specs.declared.tops.Found.the-variants.{Number, Full}
+use Rattle.tops.specs.declared.Found.{Found}
+use Rattle.tops.specs.declared.Found.the-variants.{Number, Full}
 use Rattle.rounds.specs.declared.Settled.{Settled}
 use Rattle.rounds.specs.declared.Settled.the-variants.{After, Full as FullAfter}
 

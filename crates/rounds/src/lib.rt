@@ -2,9 +2,8 @@
 // the list repeats.
 use counts::position;
 use lists::positions;
-use sets::named;
-use sets::tops::Found;
 use table::Table;
+use tops::Found;
 ghost use Prim.Native.Nat.{_≤_, _<_};
 ghost use lib.ListN.{length};
 ghost use Rattle.meaning.specs.Rounds.{allSafe};
@@ -39,7 +38,7 @@ fn all_inputs(
     while input < table.inputs {
         let half = steps::on_input(table, input);
         input += 1;
-        let found = named::cut(w, wn, half, k, a, n, room);
+        let found = sets::cut(w, wn, half, k, a, n, room);
         let Found::Number(left) = found else {
             return Found::Full;
         };
@@ -66,7 +65,7 @@ fn all_outputs(
     while output < table.outputs {
         let half = steps::on_output(table, output);
         output += 1;
-        let found = named::widen(v, vn, half, k, b, n, room);
+        let found = sets::widen(v, vn, half, k, b, n, room);
         let Found::Number(more) = found else {
             return Found::Full;
         };

@@ -11,11 +11,11 @@ use Rattle.meaning.specs.Counting.{Position, below}
 use Rattle.meaning.specs.Written.{positionBytes}
 use Rattle.counts.specs.Cells.{lesserCounts}
 use Rattle.counts.proofs.Wide.{wide-length, below-wide, before-wide}
-use Rattle.sets.specs.Tops.{tops, meets}
+use Rattle.tops.specs.Tops.{tops, meets}
 use Rattle.counts.proofs.Lesser.{wide-lesser}
 use Rattle.lists.proofs.Members.{Sized}
-use Rattle.sets.proofs.Kept.{Covered, member-tops, tops-kept, tops-only, tops-sized}
-use Rattle.sets.proofs.Climb.{tops-cover}
+use Rattle.tops.proofs.Kept.{Covered, member-tops, tops-kept, tops-only, tops-sized}
+use Rattle.tops.proofs.Climb.{tops-cover}
 
 -- in eight counts: the tops of positions with at most eight counts, widened, are the tops of the widened
 wide-ascends : (n : ℕ) (l : List Position) → n ≤ 8 → Sized n l → Ascending l → Ascending (map positionBytes l)

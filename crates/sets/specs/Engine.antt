@@ -7,7 +7,7 @@ use Rattle.meaning.specs.Table.{Half, Table, onOutput, onInput}
 use Rattle.meaning.specs.Counting.{Position, back}
 use Rattle.meaning.specs.Rounds.{Set, maximalMembers}
 use Rattle.meaning.specs.Written.{positionBytes}
-use Rattle.sets.specs.Tops.{tops, meets}
+use Rattle.tops.specs.Tops.{tops, meets}
 
 -- a list stands for a set of positions of n states: it has the maximal members, in eight counts
 abbrev pub StandsFor : ℕ → ℕ → Set → List Position → Type 0

@@ -1,5 +1,3 @@
--- What the contracts of this crate cite beside the definitions of `meaning`, `counts` and `lists`.
-pub mod Tops
+-- What the contracts of this crate cite beside the definitions of `meaning` and of the crates that it uses.
 pub mod Engine
-pub mod Held
-pub mod Candidates
+pub mod Stored

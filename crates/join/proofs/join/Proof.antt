@@ -13,10 +13,10 @@ use Rattle.meaning.specs.Join.{joinedBytes}
 use Rattle.meaning.specs.declared.Refusal.the-variants.{Room}
 use Rattle.meaning.specs.Answers.{join, joinedAs, unjoined, joinedInto}
 use Rattle.meaning.specs.Checks.{check, roomToJoin, pairChecks, joinChecks}
-use Rattle.join.specs.declared.pair.Paired.{Paired}
-use Rattle.join.specs.declared.pair.Readings.{Readings}
-use Rattle.join.specs.Joined.{pairedOf}
-use Rattle.join.proofs.Paired.{byPaired, judge-paired}
+use Rattle.joined.specs.declared.pair.Paired.{Paired}
+use Rattle.joined.specs.declared.pair.Readings.{Readings}
+use Rattle.joined.specs.Joined.{pairedOf}
+use Rattle.joined.proofs.Paired.{byPaired, judge-paired}
 use Rattle.join.proofs.join.Statement.{statement}
 use Rattle.join.proofs.join.Tie as tie
 

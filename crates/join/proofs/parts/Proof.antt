@@ -10,11 +10,11 @@ use denote.Ref.{now}
 use Rattle.meaning.specs.declared.Refusal.the-variants.{Bound, Room}
 use Rattle.meaning.specs.Answers.{unsolved, parts}
 use Rattle.meaning.specs.Checks.{check, bound, room, pairChecks}
-use Rattle.join.specs.declared.pair.Paired.{Paired}
-use Rattle.join.specs.declared.pair.Readings.{Readings}
-use Rattle.join.specs.Joined.{pairedOf}
+use Rattle.joined.specs.declared.pair.Paired.{Paired}
+use Rattle.joined.specs.declared.pair.Readings.{Readings}
+use Rattle.joined.specs.Joined.{pairedOf}
 use Rattle.join.specs.Parts.{inTurn}
-use Rattle.join.proofs.Paired.{byPaired, judge-paired}
+use Rattle.joined.proofs.Paired.{byPaired, judge-paired}
 use Rattle.join.proofs.Settles.{refusal-leaves}
 use Rattle.join.proofs.Stages.{parts-judged}
 use Rattle.join.proofs.parts.Statement.{statement}

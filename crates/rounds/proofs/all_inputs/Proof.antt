@@ -11,7 +11,7 @@ use Rattle.meaning.specs.Counting.{Position}
 use Rattle.table.specs.Packed.{tableIn}
 use Rattle.sets.specs.Engine.{listA}
 use Rattle.lists.specs.Members.{members}
-use Rattle.sets.specs.Held.{Holds}
+use Rattle.tops.specs.Held.{Holds}
 use Rattle.lists.proofs.Members.{members-store}
 use Rattle.sets.proofs.Rounded.{ready-low, listA-ready}
 use Rattle.rounds.specs.Rounds.{widestA}

@@ -11,7 +11,7 @@ use lib.ListN.{length, getD}
 use Rattle.counts.specs.Cells.{cells}
 use Rattle.lists.specs.Members.{members}
 use Rattle.lists.proofs.Members.{members-length, members-more}
-use Rattle.sets.proofs.Held.{holds-full, holds-number}
+use Rattle.tops.proofs.Held.{holds-full, holds-number}
 use Rattle.join.specs.Beside.{allBeside}
 use Rattle.join.proofs.Pairs.{all-number, all-more, row-fits}
 use Rattle.join.proofs.beside.pairs.Statement.{statement}

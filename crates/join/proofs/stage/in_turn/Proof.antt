@@ -15,7 +15,7 @@ use Rattle.table.specs.declared.Table as T
 use Rattle.table.specs.Packed.{packed}
 use Rattle.lists.specs.Members.{members}
 use Rattle.lists.proofs.Members.{members-length}
-use Rattle.sets.proofs.Held.{full-held, number-held}
+use Rattle.tops.proofs.Held.{full-held, number-held}
 use Rattle.rounds.specs.Rounds.{Settles}
 use Rattle.meaning.proofs.Sound.{passes-small}
 use Rattle.game.proofs.InOrder.{room-within}
@@ -23,7 +23,7 @@ use Rattle.rounds.proofs.Settles.{after-settled}
 use Rattle.table.proofs.Judged.{passes-none-fails}
 use Rattle.join.specs.Beside.{allBeside}
 use Rattle.join.specs.Parts.{FirstPairs}
-use Rattle.join.proofs.Paired.{none-fails, read-passes, read-joinable, read-first, first-stated, second-stated}
+use Rattle.joined.proofs.Paired.{none-fails, read-passes, read-joinable, read-first, first-stated, second-stated}
 use Rattle.join.proofs.Settles.{refusal-leaves}
 use Rattle.join.proofs.Stages.{pairs-listed, first-full, second-full, pairs-full, pairs-passed, first-output, second-output}
 use Rattle.join.proofs.stage.in_turn.Statement.{statement}

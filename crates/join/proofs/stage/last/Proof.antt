@@ -14,7 +14,7 @@ use Rattle.meaning.specs.Join.{joinedTable, joinedBytes}
 use Rattle.meaning.specs.Checks.{pairChecks, Passes}
 use Rattle.table.specs.Packed.{tableIn, packed}
 use Rattle.lists.specs.Members.{members}
-use Rattle.join.proofs.Paired.{none-fails, read-passes, read-joinable}
+use Rattle.joined.proofs.Paired.{none-fails, read-passes, read-joinable}
 use Rattle.join.proofs.Stages.{joined-read, pairs-covered, pairs-list, joined-fit}
 use Rattle.join.proofs.stage.last.Statement.{statement}
 use Rattle.join.proofs.stage.last.Tie as tie
