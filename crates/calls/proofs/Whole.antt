@@ -15,7 +15,7 @@ use Rattle.meaning.specs.declared.Answer.{Answer}
 use Rattle.meaning.specs.declared.Refusal.the-variants.{Full}
 use Rattle.meaning.specs.declared.Verdict.the-variants.{Realizable, Unrealizable, Refused}
 use Rattle.meaning.specs.Lists.{place, written}
-use Rattle.meaning.specs.Records.{Record, recordsOf, controller, outside}
+use Rattle.meaning.specs.Records.{recordsOf, outside}
 use Rattle.meaning.specs.Table.{Table, tableOf, stated}
 use Rattle.meaning.specs.Rounds.{Set, allSafe, rounds, full, maximalMembers}
 use Rattle.meaning.specs.Written.{winners, startState}

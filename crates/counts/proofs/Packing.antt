@@ -9,7 +9,6 @@ use native.Mathlib.Omega.{arith}
 use lib.IntN.{ℤ, pos}
 use lib.ListN.{length, set, drop, drop-of-length-le, length-drop}
 use lib.Seq.{drop-cons, getD-drop, getD-set-same, getD-set-other}
-use Rattle.meaning.specs.Lists.{before}
 use Rattle.meaning.specs.Counting.{Position, oneHigher, count}
 use Rattle.meaning.proofs.Steps.{same-counts}
 use Rattle.counts.specs.Cells.{cells}

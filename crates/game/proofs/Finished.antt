@@ -26,7 +26,8 @@ pub start-stepped : (K : ℕ) (t : Table) → Bounded K t → (ws : List Positio
 unfolding covering startState startPosition
 start-stepped K t bounded ws F e =
     ap (λ (G : Position). covering ws G) e
-    ∙ ap (λ (f : Position → Bool). place f ws) (below-same (startPosition K t) (rw (tab-length (t .controllers) _) (bounded .small .controllers)))
+    ∙ ap (λ (f : Position → Bool). place f ws)
+    (below-same (startPosition K t) (rw (tab-length (t .controllers) _) (bounded .small .controllers)))
 
 module _ (K : ℕ) (t : Table) (ws : List Position) (rounds : ℕ) (win con : List ℕ) (n : ℕ) (number : length ws ≡ n) where
   pub finished-nothing : n ≡ 0 → solved (refused (check Nothing 0 0 true)) win con ≡ finished K t ws rounds win con

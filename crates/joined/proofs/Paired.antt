@@ -11,7 +11,7 @@ use lib.Dec.{eqb, ltb}
 use borrow.Author.Tests.{ltb-false}
 use Rattle.meaning.specs.declared.Refusal.{Refusal}
 use Rattle.meaning.specs.declared.Refusal.the-variants.{Letters, Size}
-use Rattle.meaning.specs.Records.{Record, recordsOf, at, blank, controller, world}
+use Rattle.meaning.specs.Records.{Record, recordsOf, at, blank}
 use Rattle.meaning.specs.Table.{tableOf, stated}
 use Rattle.meaning.specs.Checks.{Check, check, judge, tableChecks, otherLetters, tooLarge, pairChecks, wrongLength}
 use Rattle.meaning.specs.Join.{joinedBytes}

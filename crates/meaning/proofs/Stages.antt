@@ -10,7 +10,7 @@ use native.Mathlib.Omega.{arith}
 use lib.ListN.{length, getD, take}
 use borrow.Author.Tests.{lt-ltb}
 use Rattle.meaning.specs.Lists.{written}
-use Rattle.meaning.specs.Records.{Record, recordsOf, controller}
+use Rattle.meaning.specs.Records.{Record, recordsOf}
 use Rattle.meaning.specs.Table.{tableOf, Table, Good}
 use Rattle.meaning.specs.Counting.{Position, below, startPosition}
 use Rattle.meaning.specs.Rounds.{Set, allSafe, winning, SmallestRepeat, FirstSet}

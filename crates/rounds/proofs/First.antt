@@ -10,18 +10,15 @@ use borrow.Author.Tests.{eqb-true, eq-eqb}
 use lib.Dec.{eqb}
 use lib.ListN.{length}
 use Rattle.meaning.specs.Lists.{any}
-use Rattle.meaning.specs.Records.{recordsOf, controller, world}
-use Rattle.meaning.specs.Table.{Table, tableOf, Small}
+use Rattle.meaning.specs.Table.{Table, Small}
 use Rattle.meaning.specs.Counting.{Position, below}
 use Rattle.meaning.specs.Rounds.{Set, allSafe, maximalMembers, Down, Within, FirstSet}
 use Rattle.meaning.specs.Written.{positionBytes}
-use Rattle.meaning.specs.Checks.{tableChecks, Passes}
 use Rattle.meaning.proofs.Tests.{both, both-left, both-right, same-test}
 use Rattle.meaning.proofs.Lists.{any-at, any-of}
 use Rattle.meaning.proofs.Positions.{allSafe-length}
 use Rattle.meaning.proofs.Rounds.{allSafe-first}
 use Rattle.meaning.proofs.Maximal.{member-in, climb}
-use Rattle.meaning.proofs.Sound.{passes-sound, passes-good, states-top}
 use Rattle.counts.proofs.Wide.{below-wide}
 use Rattle.sets.specs.Engine.{brim, StandsFor}
 use Rattle.sets.proofs.Engine.{allSafe-stands}

@@ -5,12 +5,14 @@ use mathlib.Core.Path.{_≡_, refl, sym, ap, _∙_}
 use mathlib.Core.Logic.{_⊎_, inl, inr}
 use mathlib.Core.Bool.{Bool, true, false}
 use mathlib.Core.List.{List, [], _∷_, map}
-use Prim.Native.Nat.{ℕ}
+use Prim.Native.Nat.{ℕ, suc, _<_}
 use native.Mathlib.Omega.{arith}
+use lib.ListN.{length, getD, drop}
+use lib.Seq.{drop-cons}
 use Rattle.meaning.specs.declared.Refusal.{Refusal}
 use Rattle.meaning.specs.Records.{recordsOf}
 use Rattle.meaning.specs.Table.{tableOf}
-use Rattle.meaning.specs.Checks.{Check, judge, tableChecks}
+use Rattle.meaning.specs.Checks.{Check, bound, judge, tableChecks}
 use Rattle.meaning.specs.Checks as N
 use Rattle.meaning.proofs.Checks as C
 use Rattle.meaning.proofs.Checks.{Failure, first-failure, judge-fails}
@@ -24,6 +26,18 @@ use Rattle.table.specs.Checked.{checkedOf, unlessRefused, readingOf}
 -- a failed check of a table
 abbrev pub failedCheck : ℕ → Refusal → ℕ → Check
 failedCheck which refusal place = record { failed = true; refusal = refusal; faultAt = place; table = which }
+
+-- check number n judged, with those before it passed
+abbrev nth : List Check → ℕ → Check
+nth cs n = getD cs n (bound 0)
+
+pub check-fails : (cs : List Check) (n : ℕ) → n < length cs → nth cs n .failed ≡ true
+    → Fails (nth cs n .refusal) (nth cs n .faultAt) ≡ checkedOf (drop n cs)
+check-fails cs n h p = rw (drop-cons cs n (bound 0) h, p)
+
+pub check-passes : (cs : List Check) (n : ℕ) → n < length cs → nth cs n .failed ≡ false
+    → checkedOf (drop n cs) ≡ checkedOf (drop (suc n) cs)
+check-passes cs n h p = rw (drop-cons cs n (bound 0) h, p)
 
 -- what an answer comes to
 abbrev pub byChecked : {A : Type 0} → (Refusal → ℕ → A) → A → Checked → A

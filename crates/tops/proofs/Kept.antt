@@ -5,7 +5,6 @@ use mathlib.Core.Logic.{⊎-elim}
 use mathlib.Core.Bool.{true, not}
 use mathlib.Core.List.{List, [], _∷_, _++_, Memᴰ·cast, List·Memᴰ, List·Memᴰ·append-cases}
 use Prim.Native.Nat.{ℕ}
-use lib.ListN.{length}
 use borrow.Author.Tests.{not-true}
 use Rattle.meaning.specs.Lists.{keep, Ascending}
 use Rattle.meaning.specs.Counting.{Position, below}

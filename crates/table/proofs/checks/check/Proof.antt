@@ -5,20 +5,19 @@ use mathlib.Core.Path.{_≡_, sym, ap, _∙_}
 use mathlib.Core.Logic.{⊎-elim}
 use mathlib.Core.Bool.{true, false}
 use mathlib.Core.List.{List}
-use Prim.Native.Nat.{ℕ, suc, _/_, _≤_, _<_}
+use Prim.Native.Nat.{ℕ, _/_, _≤_, _<_}
 use native.Mathlib.Omega.{arith}
 use borrow.Author.Needs.{needs}
 use borrow.Author.Tests.{lt-ltb, le-ltb}
 use denote.Ref.{now}
-use lib.ListN.{length, getD, drop}
-use lib.Seq.{drop-cons}
+use lib.ListN.{length, drop}
 use lib.Dec.{ltb, lit<}
 use Rattle.meaning.specs.Lists.{place}
 use Rattle.meaning.specs.declared.Refusal.the-variants.{Record as Recorded, Order, Edge}
 use Rattle.meaning.specs.Records.{recordsOf, outside, ofKind, controller, world}
 use Rattle.meaning.specs.Table as T
 use Rattle.meaning.specs.Table.{tableOf}
-use Rattle.meaning.specs.Checks.{Check, bound, tableChecks, misnumbered, noStart, dangling, gap}
+use Rattle.meaning.specs.Checks.{tableChecks, misnumbered, noStart, dangling, gap}
 use Rattle.meaning.proofs.Tests.{either-left, either-right}
 use Rattle.meaning.proofs.Lists.{no-place}
 use Rattle.meaning.proofs.Records.{inside-at}
@@ -30,19 +29,9 @@ use Rattle.table.specs.Checked.{checkedOf, reading, readingOf}
 use Rattle.table.specs.Packed.{tableIn, packed}
 use Rattle.table.proofs.Records.{records-count}
 use Rattle.table.proofs.Good.{checked-table}
+use Rattle.table.proofs.Judged.{check-passes, check-fails}
 use Rattle.table.proofs.checks.check.Statement.{statement}
 use Rattle.table.proofs.checks.check.Tie as tie
-
-abbrev nth : List Check → ℕ → Check
-nth cs n = getD cs n (bound 0)
-
--- check number n judged, with those before it passed
-fails : (cs : List Check) (n : ℕ) → n < length cs → nth cs n .failed ≡ true
-    → Fails (nth cs n .refusal) (nth cs n .faultAt) ≡ checkedOf (drop n cs)
-fails cs n h p = rw (drop-cons cs n (bound 0) h, p)
-
-passes : (cs : List Check) (n : ℕ) → n < length cs → nth cs n .failed ≡ false → checkedOf (drop n cs) ≡ checkedOf (drop (suc n) cs)
-passes cs n h p = rw (drop-cons cs n (bound 0) h, p)
 
 -- a place is that of a record, or past the last
 at-record : (bytes : List ℕ) (found place : ℕ) → found ≡ place → found < length bytes / 4 → ltb place (length (recordsOf bytes)) ≡ true
@@ -81,21 +70,21 @@ bytes-10 c = bytes-9 (c .before .before)
 
 after-4 : (c : tie.Else1) → Left 1 (bytes-4 (c .before))
 unfolding tableChecks
-after-4 c = passes (tableChecks 0 (bytes-4 (c .before))) 0 (lit< tt) (sym (c .before .wrong-length .ensures) ∙ c .if1 .left)
+after-4 c = check-passes (tableChecks 0 (bytes-4 (c .before))) 0 (lit< tt) (sym (c .before .wrong-length .ensures) ∙ c .if1 .left)
 
 none-outside : (c : tie.Else2) → let rs = recordsOf (bytes-6 (c .before)) in ltb (place outside rs) (length rs) ≡ false
 none-outside c = at-none (bytes-6 (c .before)) _ _ (c .before .before .first-outside .ensures) (c .if2 .left)
 
 after-5 : (c : tie.Else2) → Left 2 (bytes-6 (c .before))
 unfolding tableChecks
-after-5 c = after-4 (c .before .before .before) ∙ passes (tableChecks 0 (bytes-6 (c .before))) 1 (lit< tt) (none-outside c)
+after-5 c = after-4 (c .before .before .before) ∙ check-passes (tableChecks 0 (bytes-6 (c .before))) 1 (lit< tt) (none-outside c)
 
 after-6 : (c : tie.Else3) → Left 3 (bytes-6 (c .before .before))
 unfolding tableChecks
 after-6 c =
     let bytes = bytes-6 (c .before .before) in
     after-5 (c .before)
-    ∙ passes (tableChecks 0 bytes) 2 (lit< tt) (at-none bytes _ _ (c .before .before .first-descent .ensures) (c .if3 .left))
+    ∙ check-passes (tableChecks 0 bytes) 2 (lit< tt) (at-none bytes _ _ (c .before .before .first-descent .ensures) (c .if3 .left))
 
 controllers-numbered : (c : tie.Else5) → misnumbered (ofKind controller (recordsOf (bytes-7 (c .before)))) ≡ false
 controllers-numbered c = sym (c .before .before .before .misnumbered .ensures) ∙ c .before .before .if4 .left
@@ -107,7 +96,7 @@ after-7 : (c : tie.Else5) → Left 4 (bytes-7 (c .before))
 unfolding tableChecks
 after-7 c =
     after-6 (c .before .before .before .before)
-    ∙ passes (tableChecks 0 (bytes-7 (c .before))) 3 (lit< tt) (rw (controllers-numbered c, worlds-numbered c))
+    ∙ check-passes (tableChecks 0 (bytes-7 (c .before))) 3 (lit< tt) (rw (controllers-numbered c, worlds-numbered c))
 
 -- the table that was read
 same-table : (c : tie.After-read) → tableIn (c .read .result) ≡ tableOf (recordsOf (bytes-7 (c .before .before)))
@@ -126,7 +115,7 @@ after-8 : (c : tie.Else6) → Left 5 (bytes-8 (c .before))
 unfolding tableChecks
 after-8 c =
     let tried = c .before in
-    after-7 (tried .before .before) ∙ passes (tableChecks 0 (bytes-8 tried)) 4 (lit< tt) (starts tried ∙ c .if6 .left)
+    after-7 (tried .before .before) ∙ check-passes (tableChecks 0 (bytes-8 tried)) 4 (lit< tt) (starts tried ∙ c .if6 .left)
 
 -- where an edge of it dangles
 stray : (c : tie.After-first-dangling) → let rs = recordsOf (bytes-9 c) in c .first-dangling .result ≡ place (dangling (tableOf rs)) rs
@@ -137,7 +126,7 @@ after-9 : (c : tie.Else7) → Left 6 (bytes-9 (c .before))
 unfolding tableChecks
 after-9 c =
     let bytes = bytes-9 (c .before) in
-    after-8 (c .before .before) ∙ passes (tableChecks 0 bytes) 5 (lit< tt) (at-none bytes _ _ (stray (c .before)) (c .if7 .left))
+    after-8 (c .before .before) ∙ check-passes (tableChecks 0 bytes) 5 (lit< tt) (at-none bytes _ _ (stray (c .before)) (c .if7 .left))
 
 -- whether it has a gap
 gaps : (c : tie.After-gap) → gap (tableOf (recordsOf (bytes-10 c))) ≡ c .gap .result
@@ -155,7 +144,7 @@ returns c =
     let tried = c .before .before in
     let bytes = bytes-4 tried in
     c .refused .ensures
-    ∙ answered bytes (fails (tableChecks 0 bytes) 0 (lit< tt) (sym (tried .wrong-length .ensures) ∙ c .before .if1 .taken))
+    ∙ answered bytes (check-fails (tableChecks 0 bytes) 0 (lit< tt) (sym (tried .wrong-length .ensures) ∙ c .before .if1 .taken))
 
 first-outside-requires : tie.Need-first-outside-requires
 first-outside-requires c κs = search needs
@@ -174,7 +163,7 @@ returns-2 c =
     let found = tried .before .first-outside .ensures in
     c .refused2 .ensures
     ∙ answered bytes (ap (Fails Recorded) found
-    ∙ fails (tableChecks 0 bytes) 1 (lit< tt) (at-record bytes _ _ found (c .before .if2 .taken))
+    ∙ check-fails (tableChecks 0 bytes) 1 (lit< tt) (at-record bytes _ _ found (c .before .if2 .taken))
     ∙ sym (after-4 (tried .before .before)))
 
 refused-requires-3 : tie.Need-refused-requires-3
@@ -188,7 +177,7 @@ returns-3 c =
     let found = passed .before .first-descent .ensures in
     c .refused3 .ensures
     ∙ answered bytes (ap (Fails Order) found
-    ∙ fails (tableChecks 0 bytes) 2 (lit< tt) (at-record bytes _ _ found (c .before .if3 .taken))
+    ∙ check-fails (tableChecks 0 bytes) 2 (lit< tt) (at-record bytes _ _ found (c .before .if3 .taken))
     ∙ sym (after-5 passed))
 
 misnumbered-requires : tie.Need-misnumbered-requires
@@ -209,7 +198,7 @@ returns-4 c =
     let controllers = misnumbered (ofKind controller (recordsOf bytes)) in
     let worlds = misnumbered (ofKind world (recordsOf bytes)) in
     c .refused4 .ensures
-    ∙ answered bytes (fails (tableChecks 0 bytes) 3 (lit< tt)
+    ∙ answered bytes (check-fails (tableChecks 0 bytes) 3 (lit< tt)
     (⊎-elim
     (λ w. either-left controllers worlds (sym (tried .before .misnumbered .ensures) ∙ w .taken))
     (λ w. either-right controllers worlds (sym (w .1 .ensures) ∙ w .2 .taken))
@@ -230,7 +219,7 @@ unfolding tableChecks
 returns-5 c =
     let tried = c .before .before in
     c .refused5 .ensures
-    ∙ answered (bytes-8 tried) (fails (tableChecks 0 (bytes-8 tried)) 4 (lit< tt) (starts tried ∙ c .before .if6 .taken)
+    ∙ answered (bytes-8 tried) (check-fails (tableChecks 0 (bytes-8 tried)) 4 (lit< tt) (starts tried ∙ c .before .if6 .taken)
     ∙ sym (after-7 (tried .before .before)))
 
 first-dangling-requires : tie.Need-first-dangling-requires
@@ -246,7 +235,7 @@ returns-6 c =
     let bytes = bytes-9 tried in
     c .refused6 .ensures
     ∙ answered bytes (ap (Fails Edge) (stray tried)
-    ∙ fails (tableChecks 0 bytes) 5 (lit< tt) (at-record bytes _ _ (stray tried) (c .before .if7 .taken))
+    ∙ check-fails (tableChecks 0 bytes) 5 (lit< tt) (at-record bytes _ _ (stray tried) (c .before .if7 .taken))
     ∙ sym (after-8 (tried .before)))
 
 gap-requires : tie.Need-gap-requires
@@ -261,7 +250,7 @@ returns-7 c =
     let tried = c .before .before in
     let bytes = bytes-10 tried in
     c .refused7 .ensures
-    ∙ answered bytes (fails (tableChecks 0 bytes) 6 (lit< tt) (gaps tried ∙ c .before .if8 .taken) ∙ sym (after-9 (tried .before)))
+    ∙ answered bytes (check-fails (tableChecks 0 bytes) 6 (lit< tt) (gaps tried ∙ c .before .if8 .taken) ∙ sym (after-9 (tried .before)))
 
 returns-8 : tie.Need-returns-8
 unfolding tableChecks
@@ -269,7 +258,7 @@ returns-8 c =
     let tried = c .before in
     let bytes = bytes-10 tried in
     ap (λ (t : Table). reading t Passes) (tried .before .before .before .before .before .read .ensures)
-    ∙ answered bytes (sym (after-9 (tried .before) ∙ passes (tableChecks 0 bytes) 6 (lit< tt) (gaps tried ∙ c .if8 .left)))
+    ∙ answered bytes (sym (after-9 (tried .before) ∙ check-passes (tableChecks 0 bytes) 6 (lit< tt) (gaps tried ∙ c .if8 .left)))
 
 pub check-spec : {M : Type 1} → statement M
 check-spec =
