@@ -8,9 +8,8 @@ use native.Mathlib.Omega.{arith}
 use lib.ListN.{length, getD, take, set}
 use lib.Seq.{take-suc, length-take-le}
 use Rattle.meaning.specs.Lists.{written}
-use Rattle.meaning.proofs.Lists.{flatMap-length}
+use Rattle.meaning.proofs.Lists.{flatMap-length, flatMap-more}
 use Rattle.meaning.proofs.Stores.{four-stored}
-use Rattle.writing.proofs.Rows.{flatMap-more}
 use Rattle.calls.specs.Called.{fourBytes}
 
 -- a field takes four bytes

@@ -28,14 +28,13 @@ use Rattle.meaning.proofs.Tests.{neither-right, first-le, cond-cases}
 use Rattle.meaning.proofs.Checks.{passes-at, passes-right}
 use Rattle.meaning.proofs.Answers.{solve-passes, parts-passes}
 use Rattle.meaning.proofs.Sound.{sound-small, passes-small, passes-paired}
-use Rattle.meaning.proofs.Buffers.{winners-number}
+use Rattle.meaning.proofs.Buffers.{winners-number, room-grants}
 use Rattle.meaning.proofs.JoinGood.{joined-length, joined-sound}
-use Rattle.table.proofs.Records.{records-count}
-use Rattle.rounds.proofs.Settles.{rounds-few}
-use Rattle.game.proofs.InOrder.{room-within}
+use Rattle.meaning.proofs.Records.{records-count}
+use Rattle.meaning.proofs.Rounds.{rounds-few}
+use Rattle.meaning.proofs.Codes.{code-below}
 use Rattle.calls.specs.Called.{fields, fourBytes, answerBytes, numbersIn}
 use Rattle.calls.proofs.Laid.{four-length}
-use Rattle.meaning.proofs.Codes.{code-below}
 
 -- each number is below 2 ^ 32
 abbrev pub Fit : List ℕ → Type 0
@@ -166,7 +165,7 @@ solve-fits bytes K N win con =
     (λ p.
     let q = solve-passes bytes K N win con p in
     solved-fits K N t X win con (ltb-false 7 K (q .in-bound)) (passes-small 0 bytes (q .table) .controllers)
-    (room-within N win con (q .roomy) .1)
+    (room-grants N win con (q .roomy) .within)
     (passes-at (stageChecks 0 K N t X) (q .stage) 0 (bound 0) (lit< tt)))
 
 pub parts-fits : (one two : List ℕ) (K N : ℕ) (win con : List ℕ) → Fit (fields (parts one two K N win con .answer))
@@ -194,7 +193,7 @@ parts-fits one two K N win con =
     let q = parts-passes one two K N win con p in
     solved-fits K N both X win con (ltb-false 7 K (q .in-bound))
     (sound-small rs (joined-sound (recordsOf one) (recordsOf two) (passes-paired one two (q .pair))) .controllers)
-    (room-within N win con (q .roomy) .1) (passes-at (stageChecks 0 K N both X) (q .last-stage) 0 (bound 0) (lit< tt)))
+    (room-grants N win con (q .roomy) .within) (passes-at (stageChecks 0 K N both X) (q .last-stage) 0 (bound 0) (lit< tt)))
 
 pub join-fits : (one two out : List ℕ) → Fit (fields (join one two out .answer))
 unfolding join joinChecks roomToJoin fields wrongLength

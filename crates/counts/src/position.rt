@@ -4,8 +4,8 @@ ghost use mathlib.Core.Path.{_≡_};
 ghost use Prim.Native.Nat.{_≤_, _+_};
 ghost use Rattle.meaning.specs.Lists.{largest, tab};
 ghost use Rattle.meaning.specs.Counting.{oneHigher, below as belowAll, forward as forwardBy};
-ghost use Rattle.counts.specs.Cells.{cells, sameCounts, halfOf, brought, startCounts};
 ghost use Rattle.meaning.specs.Written.{positionBytes};
+ghost use Rattle.counts.specs.Cells.{cells, sameCounts, halfOf, brought, startCounts};
 
 // One letter's half of a round: for each source a byte of targets, for each target its mark.
 pub struct Half {

@@ -17,8 +17,8 @@ use Rattle.meaning.specs.Answers.{refused, unsolved, answered, solved}
 use Rattle.meaning.specs.Checks.{check}
 use Rattle.meaning.proofs.Lists.{tab-length}
 use Rattle.steps.specs.Bounded.{Bounded}
-use Rattle.game.specs.Finished.{finished}
 use Rattle.writing.proofs.Stepped.{below-same}
+use Rattle.game.specs.Finished.{finished}
 
 -- the start state, by the start position in eight counts
 pub start-stepped : (K : ℕ) (t : Table) → Bounded K t → (ws : List Position) (F : Position) → F ≡ positionBytes (startPosition K t)

@@ -2,14 +2,12 @@
 -- `check`, and 11 and 12 of a stage by how its rounds settled. Each law takes what the code has found to what the definition judges next,
 -- so that the outcome is put together check by check. Assumes nothing.
 use mathlib.Core.Path.{_≡_, sym, ap, _∙_}
-use mathlib.Core.Bool.{true, false, _||_}
+use mathlib.Core.Bool.{true, false}
 use mathlib.Core.List.{List, _∷_, _++_}
-use Prim.Native.Nat.{ℕ, _*_, _≤_, _<_}
+use Prim.Native.Nat.{ℕ, _≤_, _<_}
 use native.Mathlib.Omega.{arith}
-use borrow.Author.Tests.{eqb-false, lt-ltb, le-ltb, ltb-false}
+use borrow.Author.Tests.{lt-ltb, le-ltb}
 use lib.IntN.{ℤ}
-use lib.ListN.{length}
-use lib.Dec.{eqb, ltb}
 use Rattle.meaning.specs.declared.Answer.{Answer}
 use Rattle.meaning.specs.declared.Refusal.{Refusal}
 use Rattle.meaning.specs.declared.Refusal.the-variants.{Bound, Room, Full}
@@ -18,7 +16,6 @@ use Rattle.meaning.specs.Table.{Table, tableOf, Small}
 use Rattle.meaning.specs.Rounds.{Set, FirstSet}
 use Rattle.meaning.specs.Answers.{refused, Solved, unsolved, solvedFrom, solved}
 use Rattle.meaning.specs.Checks.{Check, check, judge, bound, room, tableChecks, stageChecks, Passes}
-use Rattle.meaning.proofs.Tests.{neither-left, neither-right}
 use Rattle.meaning.proofs.Records.{letters-top}
 use Rattle.meaning.proofs.Checks.{judge-passes, judge-append}
 use Rattle.meaning.proofs.Sound.{passes-sound, passes-good, passes-small}
@@ -27,11 +24,11 @@ use Rattle.table.specs.Checked.{checkedOf}
 use Rattle.table.proofs.Judged.{byChecked, failedCheck, judge-checked}
 use Rattle.lists.specs.Members.{members}
 use Rattle.rounds.specs.Rounds.{Settles}
-use Rattle.game.specs.Finished.{finished, Roomy, Fit}
-use Rattle.writing.specs.Playable.{Playable}
 use Rattle.rounds.specs.declared.Settled.{Settled}
 use Rattle.rounds.specs.declared.Settled.the-variants.{After, Full as FullAfter}
 use Rattle.rounds.proofs.Settles.{full-settled, after-settled}
+use Rattle.writing.specs.Playable.{Playable}
+use Rattle.game.specs.Finished.{finished, Roomy, Fit}
 use Rattle.game.proofs.Listed.{stage-finished, listed-playable, listed-roomy}
 
 -- checks 2 and 3, before any others
@@ -51,15 +48,6 @@ module _ (K N : ℕ) (win con : List ℕ) (cs : List Check) (grant : Solved) whe
   pub opened-on : K ≤ 7 → room N win con .failed ≡ false → judge cs (unsolved win con) grant ≡ opened
   unfolding bound
   opened-on h p = rw (le-ltb 7 K h, p)
-
--- where 3 passes the room is 1 to 256
-pub room-within : (N : ℕ) (win con : List ℕ) → room N win con .failed ≡ false → (1 ≤ N) × (N ≤ 256)
-unfolding room
-room-within N win con p =
-    let wins = ltb (length win) (8 * N) in
-    let cons = ltb (length con) (32 * N) in
-    let none = neither-left (eqb N 0 || ltb 256 N) wins (neither-left (eqb N 0 || ltb 256 N || wins) cons p) in
-    (omega (arith, eqb-false N 0 (neither-left (eqb N 0) (ltb 256 N) none)), ltb-false 256 N (neither-right (eqb N 0) (ltb 256 N) none))
 
 -- checks 4 to 10 of a table, before any others
 module _ (which : ℕ) (bytes : List ℕ) (win con : List ℕ) (cs : List Check) (grant : Solved) where

@@ -4,12 +4,11 @@
 use mathlib.Core.Path.{_≡_, refl, sym, ap, ap₂, _∙_, fun-ext}
 use mathlib.Core.Bool.{Bool, false, cond, _||_}
 use mathlib.Core.List.{List, [], _∷_, map, flatMap, List·Memᴰ, List·Memᴰ·head, List·Memᴰ·tail}
-use Prim.Native.Nat.{ℕ, zero, suc, _*_, _≤_, _<_}
+use Prim.Native.Nat.{ℕ, zero, suc, _≤_, _<_}
 use native.Mathlib.Decide.{decLt}
 use native.Mathlib.Omega.{arith}
 use lib.ListN.{length, getD, length-map, List·getD-map, List·getD-eq-default}
 use lib.Dec.{eqb, ltb}
-use borrow.Author.Tests.{ltb-false}
 use Rattle.meaning.specs.declared.Verdict.the-variants.{Realizable, Unrealizable}
 use Rattle.meaning.specs.declared.Refusal.the-variants.{Nothing}
 use Rattle.meaning.specs.Lists.{any, place, written}
@@ -20,17 +19,17 @@ use Rattle.meaning.specs.Written.{Row, positionBytes, winners, winnersBytes, co
 use Rattle.meaning.specs.Written.{rowsOfState, controllerRows, stateOrder, leadsBack, rowsFrom}
 use Rattle.meaning.specs.Answers.{Solved, unsolved, solvedFrom, answered}
 use Rattle.meaning.specs.Checks.{check, judge, stageChecks, room}
-use Rattle.meaning.proofs.Tests.{neither-left, neither-right, same-test, each-same, first-same}
-use Rattle.meaning.proofs.Lists.{tab-same, any-at, any-of, member-at}
+use Rattle.meaning.proofs.Tests.{same-test, each-same, first-same}
+use Rattle.meaning.proofs.Lists.{tab-same, any-at, any-of, member-at, getD-inside}
 use Rattle.meaning.proofs.Steps.{forward-length}
 use Rattle.meaning.proofs.Rounds.{winning-down, winning-safe}
 use Rattle.meaning.proofs.Maximal.{member-in, climb}
 use Rattle.meaning.proofs.Rows.{output-letter, winner-wins}
+use Rattle.meaning.proofs.Buffers.{room-grants}
 use Rattle.counts.proofs.Wide.{wide-count, wide-of-wide, below-counts, forward-counts}
 use Rattle.sets.proofs.Engine.{members-sized}
-use Rattle.game.specs.Finished.{finished, Roomy}
 use Rattle.writing.specs.Playable.{Playable}
-use Rattle.writing.proofs.Bytes.{getD-inside}
+use Rattle.game.specs.Finished.{finished, Roomy}
 
 -- a search over members that were changed to ones alike
 module _ {A : Type 0} (f : A → Bool) (g : A → A) where
@@ -165,19 +164,11 @@ module _ (K : ℕ) (t : Table) (X : Set) (small : Small t) (first : FirstSet K t
 
     -- there is room for what is written, where ROOM is not given and there are at most N winners
     pub listed-roomy : (N : ℕ) → room N win con .failed ≡ false → length (winners K t X) ≤ N → Roomy listed win con
-    unfolding room
     listed-roomy N p h =
-        let none = eqb N 0 || ltb 256 N in
-        let wins = ltb (length win) (8 * N) in
-        let cons = ltb (length con) (32 * N) in
+        let granted = room-grants N win con p in
         record {
-          winners = omega (
-            arith,
-            listed-length,
-            ltb-false (length win) (8 * N)
-                (neither-right none wins (neither-left (none || wins) cons p)),
-          );
-          controller = omega (arith, listed-length, ltb-false (length con) (32 * N) (neither-right (none || wins) cons p));
+          winners = omega (arith, listed-length, granted .winners);
+          controller = omega (arith, listed-length, granted .rows);
         }
 
   -- each winner's output leads back

@@ -12,8 +12,8 @@ ghost use Rattle.meaning.specs.Answers.{refused as refusedBy, solved};
 ghost use Rattle.meaning.specs.Checks.{check};
 ghost use Rattle.table.specs.Packed.{tableIn};
 ghost use Rattle.lists.specs.Members.{members};
-ghost use Rattle.game.specs.Finished.{finished, Roomy};
 ghost use Rattle.writing.specs.Playable.{Playable};
+ghost use Rattle.game.specs.Finished.{finished, Roomy};
 
 // A refusal's answer: rounds, winners and start are 0.
 pub fn refused(refusal: Refusal, place: usize, which: usize) -> Answer

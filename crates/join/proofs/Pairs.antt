@@ -12,11 +12,10 @@ use lib.Dec.{ltb}
 use borrow.Author.Tests.{ltb-true, ltb-false}
 use Rattle.meaning.specs.Counting.{Position, count}
 use Rattle.meaning.specs.Written.{positionBytes}
-use Rattle.meaning.proofs.Lists.{tab-same, flatMap-length}
+use Rattle.meaning.proofs.Lists.{tab-same, flatMap-length, flatMap-more}
 use Rattle.meaning.proofs.PairLists.{beside}
 use Rattle.counts.proofs.Wide.{wide-at}
 use Rattle.lists.proofs.Members.{Sized}
-use Rattle.writing.proofs.Rows.{flatMap-more}
 use Rattle.join.specs.Beside.{besideAt, allBeside}
 
 module _ (n : ℕ) where

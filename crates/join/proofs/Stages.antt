@@ -34,12 +34,12 @@ use Rattle.sets.proofs.Engine.{stands-length, members-sized}
 use Rattle.rounds.specs.declared.Settled.{Settled}
 use Rattle.rounds.specs.declared.Settled.the-variants as S
 use Rattle.rounds.specs.Rounds.{coveredBy, FirstList, Settles}
-use Rattle.game.specs.Finished.{Fit}
 use Rattle.rounds.proofs.First.{first-covered, first-list}
+use Rattle.game.specs.Finished.{Fit}
+use Rattle.game.proofs.InOrder.{stage-full}
 use Rattle.join.specs.Beside.{allBeside}
 use Rattle.join.specs.Parts.{FirstPairs, lastStage, inTurn}
 use Rattle.join.proofs.Pairs.{all-wide}
-use Rattle.game.proofs.InOrder.{stage-full}
 use Rattle.join.proofs.Settles.{stage-passed}
 
 module _ (one two : List ℕ) (K N : ℕ) (win con : List ℕ) where

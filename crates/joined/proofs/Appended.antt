@@ -14,11 +14,10 @@ use Rattle.meaning.specs.Lists.{written}
 use Rattle.meaning.specs.Records.{Record, recordsOf, bytesOf, at, blank, ofKind, controller, world, output}
 use Rattle.meaning.specs.Table.{tableOf}
 use Rattle.meaning.specs.Join.{byKind, upward, renumber, joined, joinedBytes}
-use Rattle.meaning.proofs.Records.{Kind, of-controller, of-world, of-output, of-input, record-same, bytes-length}
+use Rattle.meaning.proofs.Records.{Kind, of-controller, of-world, of-output, of-input, record-same, bytes-length, records-count}
 use Rattle.meaning.proofs.JoinKinds.{beside-kind}
 use Rattle.table.specs.declared.Table.{Table}
 use Rattle.table.specs.Packed.{packed}
-use Rattle.table.proofs.Records.{records-count}
 use Rattle.table.proofs.OneMore.{ofKind-around, ofKind-this, ofKind-other}
 use Rattle.joined.specs.Joined.{movedBytes, Stored}
 

@@ -17,7 +17,7 @@ use Rattle.meaning.specs.Checks.{Check, check, judge, tableChecks, otherLetters
 use Rattle.meaning.specs.Join.{joinedBytes}
 use Rattle.meaning.proofs.Tests.{neither-right}
 use Rattle.meaning.proofs.Lists.{member-at}
-use Rattle.meaning.proofs.Records.{inside-bytes}
+use Rattle.meaning.proofs.Records.{inside-bytes, records-count}
 use Rattle.meaning.specs.Checks as N
 use Rattle.meaning.proofs.Checks as C
 use Rattle.meaning.proofs.Checks.{Failure, first-failure, judge-passes, judge-fails, judge-append}
@@ -28,7 +28,6 @@ use Rattle.table.specs.declared.Table.{Table}
 use Rattle.table.specs.Packed.{packed, tableIn}
 use Rattle.table.specs.declared.Reading.{Reading}
 use Rattle.table.specs.Checked.{checkedOf, readingOf}
-use Rattle.table.proofs.Records.{records-count}
 use Rattle.table.proofs.Judged.{byChecked, judge-checked, passes-none-fails, reading-table}
 use Rattle.table.proofs.Good.{good-table}
 use Rattle.joined.specs.declared.pair.Paired.{Paired}

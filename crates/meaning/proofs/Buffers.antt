@@ -11,7 +11,7 @@ use native.Mathlib.Omega.{arith}
 use lib.ListN.{length, drop, length-append, length-drop}
 use lib.Seq.{drop-append-add, drop-drop}
 use lib.Dec.{eqb, ltb, lit<}
-use borrow.Author.Tests.{ltb-true, ltb-false}
+use borrow.Author.Tests.{eqb-false, ltb-true, ltb-false}
 use Rattle.meaning.specs.Lists.{largest, written}
 use Rattle.meaning.specs.Records.{recordsOf, input}
 use Rattle.meaning.specs.Table.{Table, tableOf, stated}
@@ -75,6 +75,29 @@ record Fits (K N : ℕ) (t : Table) (X : Set) (win con : List ℕ) : Type 0 wher
   spare : full K t X N ≡ false
   few-inputs : t .inputs ≤ 8
 
+-- what 3 grants where it passes: a room of 1 to 256, and buffers for as many winners and their rows
+pub record Granted (N : ℕ) (win con : List ℕ) : Type 0 where
+  pub some : 1 ≤ N
+  pub within : N ≤ 256
+  pub winners : 8 * N ≤ length win
+  pub rows : 32 * N ≤ length con
+
+pub room-grants : (N : ℕ) (win con : List ℕ) → room N win con .failed ≡ false → Granted N win con
+unfolding room
+room-grants N win con p =
+    let none = eqb N 0 in
+    let many = ltb 256 N in
+    let small = ltb (length win) (8 * N) in
+    let smaller = ltb (length con) (32 * N) in
+    let buffer = neither-left (none || many || small) smaller p in
+    let number = neither-left (none || many) small buffer in
+    record {
+      some = omega (arith, eqb-false N 0 (neither-left none many number));
+      within = ltb-false 256 N (neither-right none many number);
+      winners = ltb-false (length win) (8 * N) (neither-right (none || many) small buffer);
+      rows = ltb-false (length con) (32 * N) (neither-right (none || many || small) smaller p);
+    }
+
 -- what a call that solves leaves of its buffers, whatever its verdict: past 8 bytes a winner, and 4 a winner and input
 pub record Kept (inputs : ℕ) (win con : List ℕ) (s : Solved) : Type 0 where
   pub winners-stay : Stays (s .answer .winners * 8) win (s .winnersAfter)
@@ -82,16 +105,13 @@ pub record Kept (inputs : ℕ) (win con : List ℕ) (s : Solved) : Type 0 where
 
 granted-kept : (K N : ℕ) (t : Table) (X : Set) (win con : List ℕ) → Fits K N t X win con
     → Kept (t .inputs) win con (solvedFrom K t X win con)
-unfolding room solvedFrom answered controllerRows
+unfolding solvedFrom answered controllerRows
 granted-kept K N t X win con fits =
     let ws = winners K t X in
     let s = startState K t ws in
-    let none = eqb N 0 || ltb 256 N in
-    let small = ltb (length win) (8 * N) in
-    let smaller = ltb (length con) (32 * N) in
-    let wins : 8 * N ≤ length win =
-    ltb-false (length win) (8 * N) (neither-right none small (neither-left (none || small) smaller (fits .roomy))) in
-    let cons : 32 * N ≤ length con = ltb-false (length con) (32 * N) (neither-right (none || small) smaller (fits .roomy)) in
+    let granted = room-grants N win con (fits .roomy) in
+    let wins : 8 * N ≤ length win = granted .winners in
+    let cons : 32 * N ≤ length con = granted .rows in
     let number : length ws ≤ N = winners-number K N t X (fits .spare) in
     let rows : length ws * t .inputs ≤ N * 8 = mul-le-mul number (fits .few-inputs) in
     record {

@@ -1,10 +1,10 @@
 -- Laws of lists and of the words of specs/Lists.antt about them: what stands at a place of a tab, what a test over a list says of its
--- members and the other way round, what keep leaves, where place finds, and the members of a flatMap. By induction on the list.
+-- members and the other way round, what keep leaves, where place finds, and the members and parts of a flatMap. By induction on the list.
 use mathlib.Core.Path.{_≡_, refl, sym, ap, ap₂, _∙_}
 use mathlib.Core.Logic.{_⊎_, inl, inr, ⊎-elim}
 use mathlib.Core.Bool.{Bool, true, false, cond, _&&_, _||_, true≢false}
 use mathlib.Core.List.{List, [], _∷_, _++_, map, flatMap, Memᴰ·append-left, Memᴰ·append-right, List·Memᴰ, List·Memᴰ·head, List·Memᴰ·tail}
-use mathlib.Core.List.{List·Memᴰ·cases-cons, List·Memᴰ·not-nil, List·Memᴰ·append-cases}
+use mathlib.Core.List.{append-assoc, append-nil, List·Memᴰ·cases-cons, List·Memᴰ·not-nil, List·Memᴰ·append-cases}
 use Prim.Native.Nat.{ℕ, zero, suc, _+_, _*_, _≤_, _<_, zero-le, suc-le-suc}
 use native.Mathlib.Nat.{le-of-suc-le-suc, not-suc-le-zero, eq-or-lt-of-le, zero-add, suc-add, zero-mul, suc-mul}
 use native.Mathlib.Omega.{arith}
@@ -266,3 +266,19 @@ module _ {A B : Type 0} (f : A → List B) where
   unfolding flatMap
   flatMap-length m [] p = sym (zero-mul m)
   flatMap-length m (x ∷ xs) p = length-append (f x) (flatMap f xs) ∙ rw (suc-mul, p x, flatMap-length m xs p) (omega arith)
+
+  -- two lists one after the other, and one member more
+  pub flatMap-append : (xs ys : List A) → flatMap f (xs ++ ys) ≡ flatMap f xs ++ flatMap f ys
+  unfolding flatMap
+  flatMap-append [] ys = refl
+  flatMap-append (x ∷ xs) ys = rw (flatMap-append xs ys, append-assoc)
+
+  pub flatMap-more : (xs : List A) (x : A) → flatMap f (xs ++ x ∷ []) ≡ flatMap f xs ++ f x
+  unfolding flatMap
+  flatMap-more xs x = flatMap-append xs (x ∷ []) ∙ ap (λ l. flatMap f xs ++ l) (append-nil (f x))
+
+-- what stands at a place of a list does not depend on what is read beyond its end
+pub getD-inside : {A : Type 0} (l : List A) (i : ℕ) (d e : A) → i < length l → getD l i d ≡ getD l i e
+getD-inside [] i d e h = absurd (not-suc-le-zero h)
+getD-inside (x ∷ l) zero d e h = refl
+getD-inside (x ∷ l) (suc i) d e h = getD-inside l i d e (le-of-suc-le-suc h)

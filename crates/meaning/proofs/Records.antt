@@ -1,10 +1,10 @@
--- Laws of records: they come back from their bytes, each has one of four kinds, the records of a kind are the members of that kind, an
+-- Laws of records: each takes four bytes, they come back from their bytes, each has one of four kinds, the records of a kind are the members of that kind, an
 -- edge of a table is a record of its list, the number of letters is the least above every letter of a kind, and a record that is not
 -- outside the table of limits has every byte within them.
 use mathlib.Core.Path.{_≡_, refl, ap}
 use mathlib.Core.Bool.{true, false, _&&_, _||_}
 use mathlib.Core.List.{List, [], _∷_, flatMap, List·Memᴰ, Memᴰ·cast}
-use Prim.Native.Nat.{ℕ, zero, suc, _-_, _*_, _≤_, _<_, zero-le}
+use Prim.Native.Nat.{ℕ, zero, suc, _-_, _*_, _/_, _≤_, _<_, zero-le}
 use native.Mathlib.Omega.{arith}
 use lib.ListN.{length, getD}
 use lib.Dec.{eqb, leb, ltb}
@@ -15,6 +15,15 @@ use Rattle.meaning.specs.Records.{same, ofKind}
 use Rattle.meaning.specs.Table.{letters, edgeOf}
 use Rattle.meaning.proofs.Tests.{both-left, both-right, neither-left, neither-right, largest-at, largest-of}
 use Rattle.meaning.proofs.Lists.{member-at, at-member, any-at, any-of, keep-member, keep-holds, keep-of}
+
+-- four bytes a record
+pub records-count : (bytes : List ℕ) → length (recordsOf bytes) ≡ length bytes / 4
+unfolding recordsOf
+records-count [] = refl
+records-count (a ∷ []) = refl
+records-count (a ∷ b ∷ []) = refl
+records-count (a ∷ b ∷ c ∷ []) = refl
+records-count (a ∷ b ∷ c ∷ d ∷ rest) = let e = records-count rest in omega arith
 
 -- the four kinds
 pub data Kind : ℕ → Type 0 where

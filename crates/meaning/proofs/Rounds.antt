@@ -4,6 +4,7 @@
 use mathlib.Core.Path.{_≡_, refl, sym, _∙_}
 use mathlib.Core.Bool.{Bool, true, false, Bool·beq}
 use Prim.Native.Nat.{ℕ, zero, suc, _+_, _≤_, _<_, _^_}
+use native.Mathlib.Nat.{le-trans, pow-le-pow-left, pow-le-pow-right}
 use native.Mathlib.Decide.{decLe, le-ind}
 use native.Mathlib.Omega.{arith}
 use lib.ListN.{length, length-replicate}
@@ -234,3 +235,7 @@ module _ (K : ℕ) (t : Table) (X : Set) (first : FirstSet K t X) where
       in-each : (r : ℕ) → Within Y (setW K t X r)
       in-each zero = i
       in-each (suc r) = λ F y. setB-mono K t Y (setW K t X r) (t .outputs) (in-each r) F (s F y)
+
+-- that bound is a small number: with K 7 and eight states it is 9 ^ 8
+pub rounds-few : (K n : ℕ) → K ≤ 7 → n ≤ 8 → (K + 2) ^ n ≤ 43046721
+rounds-few K n k h = le-trans (pow-le-pow-left {m = 9} (omega arith) n) (pow-le-pow-right {n = 9} (omega arith) h)

@@ -12,10 +12,10 @@ use Rattle.meaning.specs.Lists.{largest}
 use Rattle.meaning.specs.Counting.{Position}
 use Rattle.meaning.proofs.Tests.{largest-at}
 use Rattle.lists.specs.Members.{members}
+use Rattle.lists.proofs.Members.{members-length}
 use Rattle.tops.specs.Held.{Holds}
 use Rattle.tops.specs.declared.Found.{Found}
 use Rattle.tops.specs.declared.Found.the-variants.{Number, Full}
-use Rattle.lists.proofs.Members.{members-length}
 use Rattle.tops.proofs.Held.{full-held, number-held}
 use Rattle.rounds.specs.Rounds.{HoldsLast}
 

@@ -5,7 +5,6 @@ use mathlib.Core.Path.{_≡_, refl, sym, ap, _∙_}
 use mathlib.Core.Bool.{Bool, true, false, true≢false}
 use mathlib.Core.List.{List, map}
 use Prim.Native.Nat.{ℕ, zero, suc, _+_, _≤_, _<_, _^_}
-use native.Mathlib.Nat.{le-trans, pow-le-pow-left, pow-le-pow-right}
 use native.Mathlib.Decide.{decLt}
 use native.Mathlib.Omega.{arith}
 use lib.IntN.{ℤ}
@@ -16,17 +15,13 @@ use Rattle.meaning.specs.Rounds.{Set, rounds, full}
 use Rattle.meaning.specs.Written.{positionBytes, winners}
 use Rattle.meaning.proofs.Tests.{largest-at, largest-passes}
 use Rattle.meaning.proofs.Buffers.{winners-number}
-use Rattle.sets.specs.Engine.{listA, listB, nextList}
 use Rattle.lists.specs.Members.{members}
+use Rattle.sets.specs.Engine.{listA, listB, nextList}
 use Rattle.sets.proofs.Engine.{Running, running-start, running-next, running-bound, running-full-A, running-full-B, first-full}
 use Rattle.sets.proofs.Engine.{running-settled}
 use Rattle.rounds.specs.Rounds.{coveredBy, FirstList, widestA, widestB, widestOf, Settles}
 use Rattle.rounds.specs.declared.Settled.{Settled}
 use Rattle.rounds.specs.declared.Settled.the-variants.{After, Full}
-
--- the bound on the rounds is a small number
-pub rounds-few : (K n : ℕ) → K ≤ 7 → n ≤ 8 → (K + 2) ^ n ≤ 43046721
-rounds-few K n k h = le-trans (pow-le-pow-left {m = 9} (omega arith) n) (pow-le-pow-right {n = 9} (omega arith) h)
 
 -- A for all inputs, and the next W, are no wider than the widest
 module _ (K : ℕ) (t : Table) (ws : List Position) where

@@ -11,10 +11,10 @@ use Rattle.meaning.specs.Table.{Table, Small}
 use Rattle.meaning.specs.Counting.{Position, covered}
 use Rattle.meaning.specs.Rounds.{Set, rounds, full, FirstSet}
 use Rattle.meaning.specs.Written.{positionBytes, winners}
-use Rattle.sets.specs.Engine.{listA, listB, StandsFor}
 use Rattle.lists.specs.Members.{members}
 use Rattle.tops.specs.declared.Found.{Found}
 use Rattle.tops.specs.declared.Found.the-variants.{Number, Full}
+use Rattle.sets.specs.Engine.{listA, listB, StandsFor}
 use Rattle.rounds.specs.declared.Settled.{Settled}
 use Rattle.rounds.specs.declared.Settled.the-variants.{After, Full as FullAfter}
 

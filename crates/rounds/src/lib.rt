@@ -7,10 +7,10 @@ use tops::Found;
 ghost use Prim.Native.Nat.{_≤_, _<_};
 ghost use lib.ListN.{length};
 ghost use Rattle.meaning.specs.Rounds.{allSafe};
-ghost use Rattle.table.specs.Packed.{tableIn};
-ghost use Rattle.sets.specs.Engine.{listA, listB, nextList};
 ghost use Rattle.meaning.specs.Table.{Small};
+ghost use Rattle.table.specs.Packed.{tableIn};
 ghost use Rattle.lists.specs.Members.{members};
+ghost use Rattle.sets.specs.Engine.{listA, listB, nextList};
 ghost use Rattle.rounds.specs.Rounds.{coveredBy, FirstList, widestA, widestB, widestOf, HoldsLast, Settles};
 
 // How the rounds end: FULL, or after so many rounds with so many winners.

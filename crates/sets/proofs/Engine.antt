@@ -21,11 +21,11 @@ use Rattle.meaning.proofs.Rounds.{setA-safe, setB-safe, setW-down, setW-safe, r
 use Rattle.meaning.proofs.Maximal.{member-in, members-determine, members-same}
 use Rattle.meaning.proofs.Full.{full-exactly}
 use Rattle.counts.proofs.Wide.{wide-at, wide-same, back-reads}
-use Rattle.tops.specs.Tops.{tops, meets}
-use Rattle.sets.specs.Engine.{StandsFor, backWide, cutBy, widenBy, brim, listA, listB, nextList}
 use Rattle.lists.proofs.Members.{Sized}
+use Rattle.tops.specs.Tops.{tops, meets}
 use Rattle.tops.proofs.Kept.{append-sized}
 use Rattle.tops.proofs.Meets.{meets-sized}
+use Rattle.sets.specs.Engine.{StandsFor, backWide, cutBy, widenBy, brim, listA, listB, nextList}
 use Rattle.sets.proofs.Widened.{tops-wide, meets-wide}
 use Rattle.sets.proofs.Letters.{allSafe-brim, setA-none, setA-cut, setB-none, setB-widen}
 

@@ -20,11 +20,11 @@ use Rattle.meaning.proofs.Positions.{allSafe-length, allSafe-safe, allSafe-of}
 use Rattle.meaning.proofs.Rounds.{setA-of, setA-safe, setA-leads, setA-down, setB-of, setB-safe, setB-leads}
 use Rattle.meaning.proofs.Maximal.{member-maximal, member-in, maximal-top, members-ascend, climb, members-same}
 use Rattle.counts.specs.Cells.{lesserCounts}
-use Rattle.tops.specs.Tops.{tops, meets}
-use Rattle.sets.specs.Engine.{brim}
 use Rattle.counts.proofs.Lesser.{lesser-length, lesser-left, lesser-right, lesser-of}
+use Rattle.tops.specs.Tops.{tops, meets}
 use Rattle.tops.proofs.Kept.{Covered, tops-only, tops-one}
 use Rattle.tops.proofs.Meets.{meets-member, member-meets}
+use Rattle.sets.specs.Engine.{brim}
 
 -- a list of members that covers the whole set has the set's maximal members as its tops
 pub members-tops : (K n : ℕ) (X : Set) → Within X (allSafe K n) → (Fs : List Position) → ((F : Position) → List·Memᴰ F Fs → X F ≡ true)

@@ -18,15 +18,15 @@ use Rattle.meaning.proofs.Tests.{both}
 use Rattle.meaning.proofs.Steps.{count-beyond, safe-at, back-safe}
 use Rattle.meaning.proofs.Positions.{allSafe-safe}
 use Rattle.counts.proofs.Wide.{wide-at, wide-length}
-use Rattle.tops.specs.Tops.{tops, meets}
-use Rattle.sets.specs.Engine.{backWide, cutBy, widenBy, brim, listA, listB}
-use Rattle.lists.specs.Members.{Low}
 use Rattle.counts.proofs.Lesser.{lesser-at}
+use Rattle.lists.specs.Members.{Low}
 use Rattle.lists.proofs.Members.{Sized}
+use Rattle.tops.specs.Tops.{tops, meets}
 use Rattle.tops.proofs.Kept.{member-tops, tops-one, append-sized, tops-sized}
-use Rattle.sets.proofs.Letters.{brim-safe}
 use Rattle.tops.proofs.Meets.{member-meets, meets-sized}
 use Rattle.tops.proofs.SameTops.{tops-again}
+use Rattle.sets.specs.Engine.{backWide, cutBy, widenBy, brim, listA, listB}
+use Rattle.sets.proofs.Letters.{brim-safe}
 
 -- each list may be cut or widened: eight counts, its own tops, no count over K + 1
 pub record Ready (K : ℕ) (l : List Position) : Type 0 where

@@ -11,9 +11,9 @@ use Rattle.meaning.specs.Counting.{Position, below}
 use Rattle.meaning.specs.Written.{positionBytes}
 use Rattle.counts.specs.Cells.{lesserCounts}
 use Rattle.counts.proofs.Wide.{wide-length, below-wide, before-wide}
-use Rattle.tops.specs.Tops.{tops, meets}
 use Rattle.counts.proofs.Lesser.{wide-lesser}
 use Rattle.lists.proofs.Members.{Sized}
+use Rattle.tops.specs.Tops.{tops, meets}
 use Rattle.tops.proofs.Kept.{Covered, member-tops, tops-kept, tops-only, tops-sized}
 use Rattle.tops.proofs.Climb.{tops-cover}
 

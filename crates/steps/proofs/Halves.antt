@@ -10,10 +10,10 @@ use lib.ListN.{getD}
 use Rattle.meaning.specs.Lists.{tab}
 use Rattle.meaning.specs.Table.{bit}
 use Rattle.meaning.proofs.Lists.{tab-at, tab-beyond}
+use Rattle.masks.proofs.Masks.{bit-none}
 use Rattle.counts.specs.Cells.{halfOf}
 use Rattle.counts.specs.declared.position.Half.{Half}
 use Rattle.table.specs.Packed.{edgeIn}
-use Rattle.masks.proofs.Masks.{bit-none}
 
 -- the bytes of one letter
 abbrev pub masksOn : List ℕ → ℕ → List ℕ

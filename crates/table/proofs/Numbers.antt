@@ -16,7 +16,7 @@ use Rattle.meaning.specs.Records.{Record, recordsOf, at, blank, ofKind}
 use Rattle.meaning.specs.Checks.{misnumbered}
 use Rattle.meaning.proofs.Tests.{both, decided, each-same}
 use Rattle.meaning.proofs.Sound.{numbered-at}
-use Rattle.table.proofs.Records.{records-count}
+use Rattle.meaning.proofs.Records.{records-count}
 use Rattle.table.proofs.OneMore.{at-last, at-other, ofKind-around, ofKind-this}
 
 -- each state bears its number

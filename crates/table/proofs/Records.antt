@@ -1,4 +1,4 @@
--- The records of bytes: how many there are, which bytes record number i is made of, what a search through them has found when it ends, and
+-- The records of bytes: which bytes record number i is made of, what a search through them has found when it ends, and
 -- the first i of them with the next. By induction on the bytes, four at a time. Assumes nothing.
 use mathlib.Core.Path.{_≡_, refl, sym, ap, _∙_}
 use mathlib.Core.Bool.{Bool, true, false, not}
@@ -13,21 +13,13 @@ use Rattle.meaning.specs.Lists.{place}
 use Rattle.meaning.specs.Records.{Record, recordsOf, at, blank, ascends}
 use Rattle.meaning.specs.Checks.{descent}
 use Rattle.meaning.proofs.Tests.{first-is}
-use Rattle.meaning.proofs.Records.{record-same}
+use Rattle.meaning.proofs.Records.{record-same, records-count}
 use Rattle.table.proofs.Searches.{first-none, place-is, place-none}
 
 -- the record that starts at a byte
 abbrev pub startingAt : List ℕ → ℕ → Record
 startingAt bytes k =
     record { kind = getD bytes k 0; from = getD bytes (k + 1) 0; letter = getD bytes (k + 2) 0; to = getD bytes (k + 3) 0 }
-
-pub records-count : (bytes : List ℕ) → length (recordsOf bytes) ≡ length bytes / 4
-unfolding recordsOf
-records-count [] = refl
-records-count (a ∷ []) = refl
-records-count (a ∷ b ∷ []) = refl
-records-count (a ∷ b ∷ c ∷ []) = refl
-records-count (a ∷ b ∷ c ∷ d ∷ rest) = let e = records-count rest in omega arith
 
 pub records-at : (bytes : List ℕ) (i : ℕ) → i < length bytes / 4 → at (recordsOf bytes) i ≡ startingAt bytes (4 * i)
 unfolding recordsOf

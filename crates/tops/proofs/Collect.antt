@@ -12,13 +12,13 @@ use lib.ListN.{length, set, length-append, length-set}
 use Rattle.meaning.specs.Counting.{Position, covered}
 use Rattle.meaning.proofs.Tests.{decided}
 use Rattle.counts.specs.Cells.{lesserCounts}
-use Rattle.tops.specs.Tops.{meets, thinned}
 use Rattle.counts.specs.Words.{countsIn}
 use Rattle.lists.specs.Members.{words}
+use Rattle.lists.proofs.Members.{words-length, words-store}
+use Rattle.tops.specs.Tops.{meets, thinned}
 use Rattle.tops.specs.Held.{HoldsWords}
 use Rattle.tops.specs.Candidates.{climbed, keepOne, collected, rowsOf}
 use Rattle.tops.specs.declared.Found.the-variants.{Number, Full}
-use Rattle.lists.proofs.Members.{words-length, words-store}
 use Rattle.tops.proofs.Held.{words-hold, held-full}
 
 -- a run over two lists goes over one and then the other

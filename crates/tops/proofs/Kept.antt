@@ -14,8 +14,8 @@ use Rattle.meaning.proofs.Steps.{below-refl, below-antisym}
 use Rattle.meaning.proofs.Ascending.{ascending-equal}
 use Rattle.lists.proofs.Members.{Sized}
 use Rattle.lists.specs.Sorted.{put}
-use Rattle.tops.specs.Tops.{top, tops}
 use Rattle.lists.proofs.Put.{member-put, put-ascends, gathered-member, member-gathered, gathered-ascends}
+use Rattle.tops.specs.Tops.{top, tops}
 
 -- a list keeps maximal ones of Fs, ascending
 pub record Kept (Fs l : List Position) : Type 0 where

@@ -16,12 +16,12 @@ use Rattle.meaning.proofs.Lists.{any-at, keep-member, keep-holds, keep-of}
 use Rattle.meaning.proofs.Ascending.{keep-ascends}
 use Rattle.meaning.proofs.Steps.{below-refl, below-trans, below-antisym}
 use Rattle.counts.specs.Cells.{lesserCounts}
-use Rattle.tops.specs.Tops.{tops, meets, thinned}
-use Rattle.lists.specs.Sorted.{sorted}
-use Rattle.tops.specs.Candidates.{uncovered, collected, rowsOf, paired}
 use Rattle.counts.proofs.Lesser.{lesser-length, lesser-left, lesser-right, lesser-of}
+use Rattle.lists.specs.Sorted.{sorted}
 use Rattle.lists.proofs.Sorted.{reverse-member, member-reverse}
 use Rattle.lists.proofs.Members.{Sized}
+use Rattle.tops.specs.Tops.{tops, meets, thinned}
+use Rattle.tops.specs.Candidates.{uncovered, collected, rowsOf, paired}
 use Rattle.tops.proofs.Kept.{Kept, Covered}
 use Rattle.tops.proofs.Climb.{Climbing}
 use Rattle.tops.proofs.Meets.{meets-member, member-meets, meets-within, meets-sized}

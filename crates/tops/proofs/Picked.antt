@@ -13,11 +13,11 @@ use Rattle.meaning.specs.Counting.{Position, below, covered}
 use Rattle.meaning.proofs.Tests.{clash, cond-cases}
 use Rattle.meaning.proofs.Lists.{any-at, any-of}
 use Rattle.meaning.proofs.Steps.{below-refl, below-trans}
-use Rattle.tops.specs.Tops.{tops}
 use Rattle.lists.specs.Sorted.{sorted}
-use Rattle.tops.specs.Candidates.{climbed, keepOne, collected}
 use Rattle.lists.proofs.Sorted.{sorted-more, sorted-own, sorted-member, member-sorted, put-new}
 use Rattle.lists.proofs.Members.{Sized}
+use Rattle.tops.specs.Tops.{tops}
+use Rattle.tops.specs.Candidates.{climbed, keepOne, collected}
 use Rattle.tops.proofs.Kept.{Kept, Covered, kept-put, top-alone, tops-only}
 use Rattle.tops.proofs.Climb.{Climbing, climbed-above, climbed-top}
 

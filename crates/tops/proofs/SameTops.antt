@@ -7,8 +7,8 @@ use mathlib.Core.List.{List, Memᴰ·cast, List·Memᴰ}
 use Prim.Native.Nat.{ℕ}
 use Rattle.meaning.specs.Counting.{Position, below}
 use Rattle.meaning.proofs.Steps.{below-refl, below-trans, below-antisym}
-use Rattle.tops.specs.Tops.{tops}
 use Rattle.lists.proofs.Members.{Sized}
+use Rattle.tops.specs.Tops.{tops}
 use Rattle.tops.proofs.Kept.{Covered, Kept, member-tops, tops-kept, tops-only}
 use Rattle.tops.proofs.Climb.{tops-cover}
 

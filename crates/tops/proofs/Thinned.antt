@@ -16,9 +16,9 @@ use Rattle.meaning.proofs.Lists.{any-at, any-of, keep-member, keep-holds, keep-
 use Rattle.meaning.proofs.Steps.{below-refl, below-trans}
 use Rattle.counts.specs.Cells.{lesserCounts}
 use Rattle.counts.proofs.Lesser.{lesser-mono}
-use Rattle.tops.specs.Tops.{tops, meets, thinned}
 use Rattle.lists.specs.Members.{thinOne}
 use Rattle.lists.proofs.Members.{Sized}
+use Rattle.tops.specs.Tops.{tops, meets, thinned}
 use Rattle.tops.proofs.Kept.{Covered, append-sized}
 use Rattle.tops.proofs.Meets.{meets-member, member-meets, meets-within, meets-sized}
 use Rattle.tops.proofs.SameTops.{Alone, tops-thin}

@@ -14,10 +14,10 @@ use Rattle.meaning.proofs.Tests.{clash, decided}
 use Rattle.meaning.proofs.Lists.{any-at, any-of, keep-member, keep-holds, keep-of}
 use Rattle.meaning.proofs.Ascending.{keep-ascends}
 use Rattle.meaning.proofs.Steps.{below-refl, below-trans}
-use Rattle.tops.specs.Tops.{tops}
 use Rattle.lists.specs.Sorted.{sorted}
-use Rattle.tops.specs.Candidates.{uncovered, united}
 use Rattle.lists.proofs.Members.{Sized}
+use Rattle.tops.specs.Tops.{tops}
+use Rattle.tops.specs.Candidates.{uncovered, united}
 use Rattle.tops.proofs.Kept.{Kept, Covered, append-sized}
 use Rattle.tops.proofs.Climb.{Climbing}
 use Rattle.tops.proofs.SameTops.{Alone, own-kept, own-alone}

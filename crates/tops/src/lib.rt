@@ -11,9 +11,9 @@ ghost use lib.ListN.{length};
 ghost use Rattle.meaning.specs.Lists.{keep};
 ghost use Rattle.meaning.specs.Counting.{below, covered};
 ghost use Rattle.counts.specs.Cells.{lesserCounts};
-ghost use Rattle.tops.specs.Tops.{meets, thinned};
 ghost use Rattle.counts.specs.Words.{countsIn};
 ghost use Rattle.lists.specs.Members.{words as wordsOf};
+ghost use Rattle.tops.specs.Tops.{meets, thinned};
 ghost use Rattle.tops.specs.Held.{HoldsWords};
 ghost use Rattle.tops.specs.Candidates.{climbed, collected, uncovered, rowsOf, paired, united};
 

@@ -12,9 +12,10 @@ use Rattle.meaning.specs.Table.{Table}
 use Rattle.meaning.specs.Counting.{Position, covered}
 use Rattle.meaning.specs.Written.{Row, rowBytes, rowsOfState, rowsFrom}
 use Rattle.meaning.proofs.Tests.{cond-cases}
-use Rattle.writing.specs.Playable.{stateAt}
 use Rattle.meaning.proofs.Stores.{tab-more, written-length, written-part}
-use Rattle.writing.proofs.Rows.{flatMap-append, flatMap-more, rowOn, rows-on, rows-length}
+use Rattle.meaning.proofs.Lists.{flatMap-append, flatMap-more}
+use Rattle.writing.specs.Playable.{stateAt}
+use Rattle.writing.proofs.Rows.{rowOn, rows-on, rows-length}
 use Rattle.writing.proofs.Orders.{order-tab}
 
 -- each block is that of one of the states

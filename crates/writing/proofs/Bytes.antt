@@ -1,8 +1,7 @@
 -- The winners' bytes one by one: byte b is the count of state b % 8 of winner b / 8. By induction on the list. Assumes nothing.
-use mathlib.Core.Path.{_≡_, refl, ap, _∙_}
+use mathlib.Core.Path.{_≡_, ap, _∙_}
 use mathlib.Core.List.{List, [], _∷_, flatMap}
-use Prim.Native.Nat.{ℕ, zero, suc, _+_, _-_, _*_, _/_, _%_, _≤_, _<_}
-use native.Mathlib.Nat.{le-of-suc-le-suc, not-suc-le-zero}
+use Prim.Native.Nat.{ℕ, suc, _+_, _-_, _*_, _/_, _%_, _≤_, _<_}
 use native.Mathlib.Decide.{decLt}
 use native.Mathlib.Omega.{arith}
 use lib.IntN.{ℤ}
@@ -10,16 +9,11 @@ use lib.ListN.{length, getD, List·getD-append}
 use lib.Seq.{getD-append-add}
 use Rattle.meaning.specs.Counting.{Position, count}
 use Rattle.meaning.specs.Written.{positionBytes, winnersBytes}
+use Rattle.meaning.proofs.Lists.{getD-inside}
 use Rattle.counts.specs.Cells.{cells}
 use Rattle.counts.proofs.Wide.{wide-length, wide-at}
 use Rattle.lists.specs.Members.{members}
 use Rattle.lists.proofs.Members.{members-length, members-at}
-
--- what stands at a place of a list does not depend on what is read beyond its end
-pub getD-inside : {A : Type 0} (l : List A) (i : ℕ) (d e : A) → i < length l → getD l i d ≡ getD l i e
-getD-inside [] i d e h = absurd (not-suc-le-zero h)
-getD-inside (x ∷ l) zero d e h = refl
-getD-inside (x ∷ l) (suc i) d e h = getD-inside l i d e (le-of-suc-le-suc h)
 
 -- member i of the first n of an array
 pub member-cells : (all : List (List ℤ)) (i n : ℕ) → i < n → n ≤ length all → getD (members all n) i [] ≡ cells (getD all i [])

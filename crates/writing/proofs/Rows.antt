@@ -2,7 +2,7 @@
 -- output leads back. By the laws of appending and of searching. Assumes nothing.
 use mathlib.Core.Path.{_≡_, refl, sym, ap, _∙_}
 use mathlib.Core.Bool.{Bool, true}
-use mathlib.Core.List.{List, [], _∷_, _++_, flatMap, append-assoc, append-nil}
+use mathlib.Core.List.{List, [], _∷_, _++_}
 use Prim.Native.Nat.{ℕ, _+_, _-_, _*_, _<_}
 use native.Mathlib.Omega.{arith}
 use lib.ListN.{length, getD, take, drop}
@@ -11,20 +11,10 @@ use Rattle.meaning.specs.Table.{Table}
 use Rattle.meaning.specs.Counting.{Position, below, covered}
 use Rattle.meaning.specs.Written.{Row, covering, afterRound, outputOf, rowBytes, rowsOfState, leadsBack}
 use Rattle.meaning.proofs.Tests.{each-at, first-holds}
-use Rattle.meaning.proofs.Lists.{tab-length, any-at, at-member, place-found}
+use Rattle.meaning.proofs.Lists.{tab-length, any-at, at-member, place-found, flatMap-more}
 use Rattle.meaning.proofs.Buffers.{rows-bytes}
-use Rattle.writing.specs.Playable.{Playable}
 use Rattle.meaning.proofs.Stores.{tab-more, written-part}
-
-pub flatMap-append : {A B : Type 0} (f : A → List B) (xs ys : List A) → flatMap f (xs ++ ys) ≡ flatMap f xs ++ flatMap f ys
-unfolding flatMap
-flatMap-append f [] ys = refl
-flatMap-append f (x ∷ xs) ys = rw (flatMap-append f xs ys, append-assoc)
-
--- one list more
-pub flatMap-more : {A B : Type 0} (f : A → List B) (xs : List A) (x : A) → flatMap f (xs ++ x ∷ []) ≡ flatMap f xs ++ f x
-unfolding flatMap
-flatMap-more f xs x = flatMap-append f xs (x ∷ []) ∙ ap (λ l. flatMap f xs ++ l) (append-nil (f x))
+use Rattle.writing.specs.Playable.{Playable}
 
 -- one row more
 pub rows-more : (f : ℕ → Row) (i : ℕ) → rowBytes (tab (i + 1) f) ≡ rowBytes (tab i f)

@@ -16,13 +16,13 @@ use Rattle.meaning.specs.Counting.{Position}
 use Rattle.table.specs.Packed.{tableIn}
 use Rattle.table.proofs.Judged.{passes-none-fails, reading-checked, reading-table}
 use Rattle.table.proofs.Good.{good-table}
+use Rattle.lists.specs.Members.{members}
+use Rattle.sets.specs.Engine.{brim}
+use Rattle.rounds.proofs.First.{brim-covered, brim-first}
 use Rattle.game.proofs.InOrder.{passes-fit}
 use Rattle.game.proofs.Solved.{solve-bound, solve-room, solve-table, solve-stage}
 use Rattle.game.proofs.solve.Statement.{statement}
 use Rattle.game.proofs.solve.Tie as tie
-use Rattle.rounds.proofs.First.{brim-covered, brim-first}
-use Rattle.lists.specs.Members.{members}
-use Rattle.sets.specs.Engine.{brim}
 
 -- the way back to the start from where 4 to 10 have passed
 abbrev start : tie.After-enum-told → tie.Start

@@ -13,8 +13,8 @@ use Rattle.meaning.specs.Checks.{check, bound, room, pairChecks}
 use Rattle.joined.specs.declared.pair.Paired.{Paired}
 use Rattle.joined.specs.declared.pair.Readings.{Readings}
 use Rattle.joined.specs.Joined.{pairedOf}
-use Rattle.join.specs.Parts.{inTurn}
 use Rattle.joined.proofs.Paired.{byPaired, judge-paired}
+use Rattle.join.specs.Parts.{inTurn}
 use Rattle.join.proofs.Settles.{refusal-leaves}
 use Rattle.join.proofs.Stages.{parts-judged}
 use Rattle.join.proofs.parts.Statement.{statement}

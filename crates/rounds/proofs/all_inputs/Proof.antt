@@ -9,10 +9,10 @@ use borrow.Author.Needs.{needs}
 use lib.ListN.{length, set, length-set}
 use Rattle.meaning.specs.Counting.{Position}
 use Rattle.table.specs.Packed.{tableIn}
-use Rattle.sets.specs.Engine.{listA}
 use Rattle.lists.specs.Members.{members}
-use Rattle.tops.specs.Held.{Holds}
 use Rattle.lists.proofs.Members.{members-store}
+use Rattle.tops.specs.Held.{Holds}
+use Rattle.sets.specs.Engine.{listA}
 use Rattle.sets.proofs.Rounded.{ready-low, listA-ready}
 use Rattle.rounds.specs.Rounds.{widestA}
 use Rattle.rounds.proofs.Runs.{Runs, runs-none, runs-more, runs-whole, runs-full}

@@ -7,9 +7,9 @@ use native.Mathlib.Numerals.{add-one}
 use native.Mathlib.Omega.{arith}
 use borrow.Author.Needs.{needs}
 use Rattle.table.specs.Packed.{tableIn}
-use Rattle.sets.specs.Engine.{listB}
 use Rattle.lists.specs.Members.{members}
 use Rattle.tops.specs.Held.{Holds}
+use Rattle.sets.specs.Engine.{listB}
 use Rattle.sets.proofs.Rounded.{ready-low, listB-ready}
 use Rattle.rounds.specs.Rounds.{widestB}
 use Rattle.rounds.proofs.Runs.{Runs, runs-none, runs-more, runs-whole, runs-full}

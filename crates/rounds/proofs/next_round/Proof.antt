@@ -3,8 +3,8 @@
 use native.Mathlib.Omega.{arith}
 use borrow.Author.Needs.{needs}
 use Rattle.table.specs.Packed.{tableIn}
-use Rattle.sets.specs.Engine.{nextList}
 use Rattle.lists.specs.Members.{members}
+use Rattle.sets.specs.Engine.{nextList}
 use Rattle.rounds.specs.Rounds.{widestOf}
 use Rattle.rounds.proofs.Runs.{last-full, full-last, number-last, last-after}
 use Rattle.rounds.proofs.Settles.{inputs-within}

@@ -8,14 +8,15 @@ use native.Mathlib.Omega.{arith}
 use borrow.Author.Needs.{needs}
 use lib.ListN.{length}
 use Rattle.meaning.proofs.Tests.{clash}
+use Rattle.meaning.proofs.Rounds.{rounds-few}
 use Rattle.table.specs.Packed.{tableIn}
-use Rattle.sets.specs.Engine.{nextList}
 use Rattle.lists.specs.Members.{members}
 use Rattle.lists.proofs.Members.{members-length, same-lists}
+use Rattle.sets.specs.Engine.{nextList}
 use Rattle.sets.proofs.Engine.{Running}
 use Rattle.rounds.specs.Rounds.{coveredBy, widestOf}
 use Rattle.rounds.proofs.Runs.{full-last, number-last}
-use Rattle.rounds.proofs.Settles.{rounds-few, next-within, settles-first-full, settles-start, settles-bound, settles-round-full}
+use Rattle.rounds.proofs.Settles.{next-within, settles-first-full, settles-start, settles-bound, settles-round-full}
 use Rattle.rounds.proofs.Settles.{settles-next, settles-repeat}
 use Rattle.rounds.proofs.settle.Statement.{statement}
 use Rattle.rounds.proofs.settle.Tie as tie

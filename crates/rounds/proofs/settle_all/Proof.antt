@@ -7,8 +7,8 @@ use Rattle.meaning.specs.Rounds.{allSafe}
 use Rattle.meaning.specs.Counting.{Position}
 use Rattle.meaning.specs.Written.{positionBytes}
 use Rattle.table.specs.Packed.{tableIn}
-use Rattle.sets.specs.Engine.{brim}
 use Rattle.lists.specs.Members.{members}
+use Rattle.sets.specs.Engine.{brim}
 use Rattle.rounds.specs.Rounds.{coveredBy}
 use Rattle.rounds.proofs.First.{brim-covered, brim-first}
 use Rattle.rounds.proofs.settle_all.Statement.{statement}

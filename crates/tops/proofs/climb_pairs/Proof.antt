@@ -7,11 +7,11 @@ use Prim.Native.Nat.{_≤_, _-_, zero-le}
 use native.Mathlib.Omega.{arith}
 use borrow.Author.Needs.{needs}
 use lib.ListN.{length, getD}
-use Rattle.tops.specs.Tops.{meets}
 use Rattle.counts.specs.Words.{countsIn}
 use Rattle.lists.specs.Members.{words}
-use Rattle.tops.specs.Candidates.{climbed}
 use Rattle.lists.proofs.Members.{words-whole, words-more}
+use Rattle.tops.specs.Tops.{meets}
+use Rattle.tops.specs.Candidates.{climbed}
 use Rattle.tops.proofs.ClimbPairs.{rows-up, rows-past}
 use Rattle.tops.proofs.climb_pairs.Statement.{statement}
 use Rattle.tops.proofs.climb_pairs.Tie as tie

@@ -12,10 +12,10 @@ use lib.ListN.{length, getD}
 use Rattle.meaning.specs.Counting.{below}
 use Rattle.counts.specs.Cells.{lesserCounts}
 use Rattle.counts.specs.Words.{countsIn}
-use Rattle.lists.specs.Members.{words}
-use Rattle.tops.specs.Candidates.{climbed}
-use Rattle.lists.proofs.Members.{words-whole, words-more}
 use Rattle.counts.proofs.Lesser.{lesser-left}
+use Rattle.lists.specs.Members.{words}
+use Rattle.lists.proofs.Members.{words-whole, words-more}
+use Rattle.tops.specs.Candidates.{climbed}
 use Rattle.tops.proofs.ClimbPairs.{row-up, row-past}
 use Rattle.tops.proofs.climb_with.Statement.{statement}
 use Rattle.tops.proofs.climb_with.Tie as tie

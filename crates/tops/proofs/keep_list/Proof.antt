@@ -8,8 +8,8 @@ use borrow.Author.Needs.{needs}
 use lib.ListN.{getD}
 use Rattle.counts.specs.Words.{countsIn}
 use Rattle.lists.specs.Members.{words}
-use Rattle.tops.specs.Candidates.{climbed}
 use Rattle.lists.proofs.Members.{words-more, words-after, words-split}
+use Rattle.tops.specs.Candidates.{climbed}
 use Rattle.tops.proofs.Collect.{Collects, collects-none, collects-whole, collects-pass, collects-put, collects-full}
 use Rattle.tops.proofs.keep_list.Statement.{statement}
 use Rattle.tops.proofs.keep_list.Tie as tie

@@ -11,11 +11,11 @@ use borrow.Author.Needs.{needs}
 use lib.ListN.{getD}
 use Rattle.meaning.specs.Lists.{any}
 use Rattle.meaning.specs.Counting.{below, covered}
-use Rattle.tops.specs.Tops.{meets}
 use Rattle.counts.specs.Words.{countsIn}
 use Rattle.lists.specs.Members.{words}
 use Rattle.lists.proofs.Members.{words-more, words-last, words-after, words-split}
 use Rattle.lists.proofs.OneMore.{any-past, one-here}
+use Rattle.tops.specs.Tops.{meets}
 use Rattle.tops.proofs.Collect.{Collects, collects-none, collects-whole, collects-pass, collects-put, collects-full}
 use Rattle.tops.proofs.keep_row.Statement.{statement}
 use Rattle.tops.proofs.keep_row.Tie as tie

@@ -10,9 +10,9 @@ use borrow.Author.Needs.{needs}
 use lib.ListN.{length, getD, take, drop}
 use lib.Seq.{length-take-le, drop-cons}
 use Rattle.meaning.specs.Counting.{Position}
-use Rattle.tops.specs.Tops.{meets}
 use Rattle.counts.specs.Words.{countsIn}
 use Rattle.lists.specs.Members.{words}
+use Rattle.tops.specs.Tops.{meets}
 use Rattle.tops.specs.Held.{HoldsWords}
 use Rattle.tops.specs.Candidates.{collected, rowsOf}
 use Rattle.tops.proofs.Held.{held-full, full-held, number-held, words-hold}

@@ -8,9 +8,9 @@ use lib.ListN.{length}
 use Rattle.meaning.specs.Lists.{keep}
 use Rattle.meaning.specs.Counting.{covered}
 use Rattle.lists.specs.Members.{words}
+use Rattle.lists.proofs.Members.{words-length}
 use Rattle.tops.specs.Held.{HoldsWords}
 use Rattle.tops.specs.Candidates.{collected, uncovered, paired}
-use Rattle.lists.proofs.Members.{words-length}
 use Rattle.tops.proofs.Held.{held-full, full-held, number-held}
 use Rattle.tops.proofs.Collect.{collected-grows, rows-grow}
 use Rattle.tops.proofs.pairs.Statement.{statement}

@@ -12,9 +12,9 @@ use Rattle.meaning.specs.Lists.{keep}
 use Rattle.meaning.specs.Counting.{covered}
 use Rattle.counts.specs.Words.{countsIn}
 use Rattle.lists.specs.Members.{words}
-use Rattle.tops.specs.Candidates.{uncovered}
 use Rattle.lists.proofs.Members.{words-more, words-store}
 use Rattle.lists.proofs.OneMore.{keep-more, keep-past}
+use Rattle.tops.specs.Candidates.{uncovered}
 use Rattle.tops.proofs.part.Statement.{statement}
 use Rattle.tops.proofs.part.Tie as tie
 

@@ -8,10 +8,10 @@ use borrow.Author.Needs.{needs}
 use lib.ListN.{length, getD}
 use Rattle.meaning.specs.Counting.{Position}
 use Rattle.counts.specs.Cells.{lesserCounts}
-use Rattle.tops.specs.Tops.{thinned}
 use Rattle.counts.specs.Words.{countsIn}
 use Rattle.lists.specs.Members.{words}
 use Rattle.lists.proofs.Members.{words-more}
+use Rattle.tops.specs.Tops.{thinned}
 use Rattle.tops.proofs.row.Statement.{statement}
 use Rattle.tops.proofs.row.Tie as tie
 

@@ -6,10 +6,10 @@ use Prim.Native.Nat.{_+_, _≤_, _-_}
 use native.Mathlib.Omega.{arith}
 use borrow.Author.Needs.{needs}
 use lib.ListN.{length, getD}
-use Rattle.lists.specs.Members.{thinOne, words}
-use Rattle.tops.specs.Tops.{thinned}
 use Rattle.counts.specs.Words.{countsIn}
+use Rattle.lists.specs.Members.{thinOne, words}
 use Rattle.lists.proofs.Members.{words-last}
+use Rattle.tops.specs.Tops.{thinned}
 use Rattle.tops.proofs.thin.Statement.{statement}
 use Rattle.tops.proofs.thin.Tie as tie
 

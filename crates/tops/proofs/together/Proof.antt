@@ -8,8 +8,8 @@ use borrow.Author.Needs.{needs}
 use lib.ListN.{length}
 use Rattle.meaning.specs.Lists.{keep}
 use Rattle.lists.specs.Members.{words}
-use Rattle.tops.specs.Candidates.{uncovered, united}
 use Rattle.lists.proofs.Members.{words-length}
+use Rattle.tops.specs.Candidates.{uncovered, united}
 use Rattle.tops.proofs.Held.{held-full}
 use Rattle.tops.proofs.Collect.{collected-grows}
 use Rattle.tops.proofs.together.Statement.{statement}

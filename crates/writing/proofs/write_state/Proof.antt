@@ -9,11 +9,11 @@ use lib.ListN.{length, getD, length-take, length-drop}
 use Rattle.meaning.specs.Lists.{tab, written}
 use Rattle.meaning.specs.Counting.{Position, covered}
 use Rattle.meaning.specs.Written.{covering, afterRound, outputOf, rowBytes, rowsOfState}
+use Rattle.meaning.proofs.Stores.{written-length}
 use Rattle.counts.specs.Cells.{cells}
 use Rattle.table.specs.Packed.{tableIn}
 use Rattle.lists.specs.Members.{members}
 use Rattle.lists.proofs.Members.{members-length}
-use Rattle.meaning.proofs.Stores.{written-length}
 use Rattle.writing.proofs.Stepped.{covering-stepped}
 use Rattle.writing.proofs.Bytes.{member-cells}
 use Rattle.writing.proofs.Rows.{outputOn, nextOn, rowOn, rows-length, row-written, next-inside}

@@ -12,11 +12,11 @@ use Rattle.meaning.specs.Lists.{written}
 use Rattle.meaning.specs.Counting.{Position, count}
 use Rattle.meaning.specs.Written.{winnersBytes}
 use Rattle.meaning.proofs.Buffers.{winners-bytes}
+use Rattle.meaning.proofs.Stores.{list-store}
 use Rattle.counts.proofs.Signed.{from-bits}
 use Rattle.counts.proofs.Cells.{cells-at}
 use Rattle.lists.specs.Members.{members}
 use Rattle.lists.proofs.Members.{members-length}
-use Rattle.meaning.proofs.Stores.{list-store}
 use Rattle.writing.proofs.Bytes.{bytes-at, member-cells}
 use Rattle.writing.proofs.write_winners.Statement.{statement}
 use Rattle.writing.proofs.write_winners.Tie as tie

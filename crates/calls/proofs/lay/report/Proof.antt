@@ -4,10 +4,10 @@ use native.Mathlib.Omega.{arith}
 use borrow.Author.Needs.{needs}
 use borrow.Author.Tests.{lt-ltb, le-ltb}
 use lib.ListN.{length}
+use Rattle.meaning.proofs.Codes.{code-below}
 use Rattle.calls.specs.Called.{reported}
 use Rattle.calls.proofs.lay.report.Statement.{statement}
 use Rattle.calls.proofs.lay.report.Tie as tie
-use Rattle.meaning.proofs.Codes.{code-below}
 
 code-requires : tie.Need-code-requires
 code-requires c κs = search needs

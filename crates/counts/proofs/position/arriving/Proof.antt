@@ -13,8 +13,8 @@ use mir.Syntax.{w8}
 use mir.Val.{toZ}
 use Rattle.meaning.specs.Lists.{largest}
 use Rattle.meaning.specs.Counting.{plus, oneHigher}
-use Rattle.counts.specs.Cells.{cell, brought}
 use Rattle.meaning.proofs.Signed.{greater-signed, plus-signed}
+use Rattle.counts.specs.Cells.{cell, brought}
 use Rattle.counts.proofs.Signed.{from-bits}
 use Rattle.counts.proofs.Edges.{bit-beyond, mask-beyond, within, largest-next, largest-within}
 use Rattle.counts.proofs.position.arriving.Statement.{statement}

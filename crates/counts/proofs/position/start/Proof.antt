@@ -9,8 +9,8 @@ use lib.IntN.{pos}
 use Rattle.meaning.specs.Table.{bit}
 use Rattle.meaning.specs.Counting.{oneHigher, count, plus}
 use Rattle.meaning.proofs.Lists.{tab-at, tab-beyond}
-use Rattle.counts.specs.Cells.{startCounts}
 use Rattle.meaning.proofs.Signed.{plus-signed}
+use Rattle.counts.specs.Cells.{startCounts}
 use Rattle.counts.proofs.Signed.{from-bits}
 use Rattle.counts.proofs.Cells.{Filled, filled-none, filled-store, filled-skip, filled-wide}
 use Rattle.counts.proofs.position.start.Statement.{statement}

@@ -9,8 +9,8 @@ use borrow.Author.Needs.{needs}
 use lib.IntN.{pos}
 use lib.ListN.{getD}
 use Rattle.meaning.specs.Counting.{oneHigher}
-use Rattle.counts.specs.Cells.{cell}
 use Rattle.meaning.proofs.Signed.{lesser-signed, less-signed}
+use Rattle.counts.specs.Cells.{cell}
 use Rattle.counts.proofs.Signed.{from-bits}
 use Rattle.counts.proofs.Bars.{Lowered, lowered-by, lowered-still, lowered-whole}
 use Rattle.counts.proofs.word.back.Statement.{statement}

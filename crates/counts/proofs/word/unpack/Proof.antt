@@ -6,8 +6,8 @@ use native.Mathlib.Omega.{arith}
 use borrow.Author.Needs.{needs}
 use lib.ListN.{length, length-set, drop}
 use Rattle.meaning.specs.Counting.{oneHigher}
-use Rattle.counts.specs.Cells.{cells}
 use Rattle.meaning.proofs.Signed.{lower-signed}
+use Rattle.counts.specs.Cells.{cells}
 use Rattle.counts.proofs.Signed.{from-bits}
 use Rattle.counts.specs.Words.{countsBefore, countsIn}
 use Rattle.counts.proofs.Packing.{unpacked-next}

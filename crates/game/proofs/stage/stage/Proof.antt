@@ -5,8 +5,9 @@ use native.Mathlib.Omega.{arith}
 use borrow.Author.Needs.{needs}
 use denote.Ref.{now}
 use Rattle.meaning.specs.Answers.{staged}
+use Rattle.meaning.proofs.Buffers.{room-grants}
 use Rattle.rounds.proofs.Settles.{after-settled}
-use Rattle.game.proofs.InOrder.{room-within, settled-full, settled-playable, settled-roomy, settled-finished}
+use Rattle.game.proofs.InOrder.{settled-full, settled-playable, settled-roomy, settled-finished}
 use Rattle.game.proofs.stage.stage.Statement.{statement}
 use Rattle.game.proofs.stage.stage.Tie as tie
 
@@ -16,8 +17,8 @@ slice-aggregate-settle c = search needs
 settle-requires : tie.Need-settle-requires
 settle-requires c κs =
     let start = c .before .before .before in
-    let within = room-within (start .args .room) (now (start .args .winners)) (now (start .args .controller)) (start .pre .0 .1) in
-    (start .pre .0 .0, start .pre .1 .0, within .0, within .1, within .1, start .pre .1 .1)
+    let granted = room-grants (start .args .room) (now (start .args .winners)) (now (start .args .controller)) (start .pre .0 .1) in
+    (start .pre .0 .0, start .pre .1 .0, granted .some, granted .within, granted .within, start .pre .1 .1)
 
 enum-known-settled : tie.Need-enum-known-settled
 enum-known-settled c = search needs
@@ -48,9 +49,9 @@ finish-requires c κs =
     let settles = call .settle .ensures in
     let fit = start .pre .0 .2 in
     let first = start .pre .1 .1 .first in
-    let within = room-within (start .args .room) (now (start .args .winners)) (now (start .args .controller)) (start .pre .0 .1) in (
-      omega (arith, after-settled settles (known .settled .given .1) .4, within .1, call .settle .kept .1 .1 .1 .1 .1 .0),
-      settled-playable settles (known .settled .given .1) first fit (start .pre .0 .0) (within .1),
+    let granted = room-grants (start .args .room) (now (start .args .winners)) (now (start .args .controller)) (start .pre .0 .1) in (
+      omega (arith, after-settled settles (known .settled .given .1) .4, granted .within, call .settle .kept .1 .1 .1 .1 .1 .0),
+      settled-playable settles (known .settled .given .1) first fit (start .pre .0 .0) (granted .within),
       settled-roomy settles (known .settled .given .1) first fit (now (start .args .winners)) (now (start .args .controller))
           (start .pre .0 .1),
     )

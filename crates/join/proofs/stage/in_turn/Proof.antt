@@ -3,7 +3,7 @@
 -- nothing.
 use mathlib.Core.Path.{_≡_, sym, ap, _∙_}
 use mathlib.Core.Bool.{true}
-use Prim.Native.Nat.{ℕ, _≤_}
+use Prim.Native.Nat.{ℕ}
 use native.Mathlib.Omega.{arith}
 use borrow.Author.Needs.{needs}
 use denote.Ref.{now}
@@ -11,19 +11,19 @@ use Rattle.meaning.specs.declared.Refusal.the-variants.{Full}
 use Rattle.meaning.specs.Checks.{check, pairChecks, Passes}
 use Rattle.meaning.specs.Rounds.{allSafe}
 use Rattle.meaning.specs.Table.{stated}
+use Rattle.meaning.proofs.Sound.{passes-small}
+use Rattle.meaning.proofs.Buffers.{Granted, room-grants}
 use Rattle.table.specs.declared.Table as T
 use Rattle.table.specs.Packed.{packed}
+use Rattle.table.proofs.Judged.{passes-none-fails}
 use Rattle.lists.specs.Members.{members}
 use Rattle.lists.proofs.Members.{members-length}
 use Rattle.tops.proofs.Held.{full-held, number-held}
 use Rattle.rounds.specs.Rounds.{Settles}
-use Rattle.meaning.proofs.Sound.{passes-small}
-use Rattle.game.proofs.InOrder.{room-within}
 use Rattle.rounds.proofs.Settles.{after-settled}
-use Rattle.table.proofs.Judged.{passes-none-fails}
+use Rattle.joined.proofs.Paired.{none-fails, read-passes, read-joinable, read-first, first-stated, second-stated}
 use Rattle.join.specs.Beside.{allBeside}
 use Rattle.join.specs.Parts.{FirstPairs}
-use Rattle.joined.proofs.Paired.{none-fails, read-passes, read-joinable, read-first, first-stated, second-stated}
 use Rattle.join.proofs.Settles.{refusal-leaves}
 use Rattle.join.proofs.Stages.{pairs-listed, first-full, second-full, pairs-full, pairs-passed, first-output, second-output}
 use Rattle.join.proofs.stage.in_turn.Statement.{statement}
@@ -51,9 +51,9 @@ passes c =
     none-fails (pairChecks (now (c .args .first)) (now (c .args .second)))
     (read-passes (now (c .args .first)) (now (c .args .second)) (c .pre .2))
 
--- the room is 1 to 256
-room : (c : tie.Start) → (1 ≤ c .args .room) × (c .args .room ≤ 256)
-room c = room-within (c .args .room) (now (c .args .winners)) (now (c .args .controller)) (c .pre .1)
+-- the room, which passes 3
+room : (c : tie.Start) → Granted (c .args .room) (now (c .args .winners)) (now (c .args .controller))
+room c = room-grants (c .args .room) (now (c .args .winners)) (now (c .args .controller)) (c .pre .1)
 
 -- the rounds of each table alone, of its bytes
 settles-first : (c : tie.After-settle-all) →
@@ -102,9 +102,9 @@ settle-all-requires c κs =
     let two = now (entry .args .second) in
     rw (first-stated one two (entry .pre .2)) (
       entry .pre .0,
-      room entry .0,
-      room entry .1,
-      room entry .1,
+      room entry .some,
+      room entry .within,
+      room entry .within,
       passes-small 0 one (passes-none-fails 0 one (read-joinable one two (entry .pre .2) .first)),
       first-output one two (passes entry),
     )
@@ -139,9 +139,9 @@ settle-all-requires-2 c κs =
     let two = now (entry .args .second) in
     rw (second-stated one two (entry .pre .2)) (
       entry .pre .0,
-      room entry .0,
-      room entry .1,
-      room entry .1,
+      room entry .some,
+      room entry .within,
+      room entry .within,
       passes-small 0 two (passes-none-fails 0 two (read-joinable one two (entry .pre .2) .second)),
       second-output one two (passes entry),
     )
@@ -181,7 +181,7 @@ pairs-requires c κs =
     let told = c .before .before .before .before in
     let second = told .before .before .before in
     let first = alone second in
-    let most = room (start first) .1 in
+    let most = room (start first) .within in
     let few = after-settled (settles-first first) (known-first second .alone-first .given .1) .4 in
     let fewer = after-settled (settles-second second) (told .alone-second .given .1) .4 in (
       omega (arith, few, most),
@@ -224,7 +224,7 @@ last-requires c κs =
     let entry = start (alone (other pairs)) in
     let held = number-held (pairs .pairs .ensures) (found .found .given .1) in (
       (entry .pre .0, entry .pre .1, entry .pre .2),
-      (omega (arith, held .0, room entry .1, pairs .pairs .kept .1 .1 .1 .1 .1 .0), rw (held .1) (pairs-held pairs)),
+      (omega (arith, held .0, room entry .within, pairs .pairs .kept .1 .1 .1 .1 .1 .0), rw (held .1) (pairs-held pairs)),
     )
 
 same-length : tie.Need-same-length
@@ -251,7 +251,7 @@ returns-4 c =
       arith,
       held .0,
       members-length (pairs .pairs .last .1 .1 .1 .1 .1 .0) (found .found .given .0 .0)
-          (omega (arith, held .0, room entry .1, pairs .pairs .kept .1 .1 .1 .1 .1 .0)),
+          (omega (arith, held .0, room entry .within, pairs .pairs .kept .1 .1 .1 .1 .1 .0)),
     ))))
 
 pub in-turn-spec : {M : Type 1} → statement M

@@ -8,10 +8,10 @@ use native.Mathlib.Omega.{arith}
 use borrow.Author.Needs.{needs}
 use borrow.Author.Tests.{eq-eqb, ne-eqb, lt-ltb, le-ltb}
 use denote.Ref.{now}
+use Rattle.meaning.specs.Checks.{tableChecks}
 use Rattle.table.specs.declared.Checked.the-variants as T
 use Rattle.table.specs.declared.Table.{Table}
 use Rattle.table.specs.Checked.{checkedOf}
-use Rattle.meaning.specs.Checks.{tableChecks}
 use Rattle.table.proofs.Judged.{reading-checked, reading-table}
 use Rattle.joined.proofs.Paired.{readings-of, first-fails, second-fails, Both, lettersDiffer, letters-fail, size-fails, all-pass}
 use Rattle.joined.proofs.Paired.{few-states}

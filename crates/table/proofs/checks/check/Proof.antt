@@ -20,14 +20,13 @@ use Rattle.meaning.specs.Table.{tableOf}
 use Rattle.meaning.specs.Checks.{tableChecks, misnumbered, noStart, dangling, gap}
 use Rattle.meaning.proofs.Tests.{either-left, either-right}
 use Rattle.meaning.proofs.Lists.{no-place}
-use Rattle.meaning.proofs.Records.{inside-at}
+use Rattle.meaning.proofs.Records.{inside-at, records-count}
 use Rattle.meaning.proofs.Sound.{numbered-at}
 use Rattle.table.specs.declared.Checked.{Checked}
 use Rattle.table.specs.declared.Checked.the-variants.{Passes, Fails}
 use Rattle.table.specs.declared.Table.{Table}
 use Rattle.table.specs.Checked.{checkedOf, reading, readingOf}
 use Rattle.table.specs.Packed.{tableIn, packed}
-use Rattle.table.proofs.Records.{records-count}
 use Rattle.table.proofs.Good.{checked-table}
 use Rattle.table.proofs.Judged.{check-passes, check-fails}
 use Rattle.table.proofs.checks.check.Statement.{statement}
