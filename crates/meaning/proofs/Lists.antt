@@ -2,7 +2,7 @@
 -- members and the other way round, what keep leaves, where place finds, and the members and parts of a flatMap. By induction on the list.
 use mathlib.Core.Path.{_≡_, refl, sym, ap, ap₂, _∙_}
 use mathlib.Core.Logic.{_⊎_, inl, inr, ⊎-elim}
-use mathlib.Core.Bool.{Bool, true, false, cond, _&&_, _||_, true≢false}
+use mathlib.Core.Bool.{Bool, true, false, cond, true≢false}
 use mathlib.Core.List.{List, [], _∷_, _++_, map, flatMap, Memᴰ·append-left, Memᴰ·append-right, List·Memᴰ, List·Memᴰ·head, List·Memᴰ·tail}
 use mathlib.Core.List.{append-assoc, append-nil, List·Memᴰ·cases-cons, List·Memᴰ·not-nil, List·Memᴰ·append-cases}
 use Prim.Native.Nat.{ℕ, zero, suc, _+_, _*_, _≤_, _<_, zero-le, suc-le-suc}
@@ -44,11 +44,6 @@ module _ {A : Type 0} where
       rw suc-add
       (ap₂ (λ (x : A) (xs : List A). x ∷ xs) (p zero (omega arith))
       (tab-sum n m (λ i. f (suc i)) (λ i. g (suc i)) k (λ i l. p (suc i) (omega arith)) (λ i l. ap f (sym (suc-add n i)) ∙ q i l)))
-
-  -- a list is the tab of its members
-  pub tab-getD : (xs : List A) (d : A) → tab (length xs) (λ i. getD xs i d) ≡ xs
-  tab-getD [] d = refl
-  tab-getD (x ∷ xs) d = ap {B = List A} (λ r. x ∷ r) (tab-getD xs d)
 
   -- the members of a tab
   pub tab-member : (n : ℕ) (f : ℕ → A) (i : ℕ) → i < n → List·Memᴰ (f i) (tab n f)
@@ -118,14 +113,6 @@ module _ {A : Type 0} where
   any-of f (y ∷ xs) x m p =
       ⊎-elim (λ (e : x ≡ y). either-left (f y) (any f xs) (ap f (sym e) ∙ p)) (λ k. either-right (f y) (any f xs) (any-of f xs x k p))
       (List·Memᴰ·cases-cons m)
-
-  pub any-same : (f g : A → Bool) (xs : List A) → ((x : A) → List·Memᴰ x xs → f x ≡ g x) → any f xs ≡ any g xs
-  any-same f g [] p = refl
-  any-same f g (x ∷ xs) p = ap₂ _||_ (p x (List·Memᴰ·head refl)) (any-same f g xs (λ y m. p y (List·Memᴰ·tail m)))
-
-  pub every-same : (f g : A → Bool) (xs : List A) → ((x : A) → List·Memᴰ x xs → f x ≡ g x) → every f xs ≡ every g xs
-  every-same f g [] p = refl
-  every-same f g (x ∷ xs) p = ap₂ _&&_ (p x (List·Memᴰ·head refl)) (every-same f g xs (λ y m. p y (List·Memᴰ·tail m)))
 
   -- keep
   pub keep-one : (b : Bool) (x : A) (r : List A) (P : List A → Type 0) → (b ≡ true → P (x ∷ r)) → (b ≡ false → P r) → P (cond b (x ∷ r) r)

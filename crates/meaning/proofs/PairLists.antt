@@ -1,32 +1,27 @@
 -- The first list of pairs: its maximal members are the pairs of the two winning lists' members, the first list's order before the
--- second's. A pair is maximal exactly if both halves are, and pairs compare by their first halves first. Then what a loop that writes
--- this list asks: how many pairs there are, which pair stands at which place, and the eight counts of a pair.
+-- second's. A pair is maximal exactly if both halves are, and pairs compare by their first halves first.
 use mathlib.Core.Path.{_≡_, refl, sym, ap, ap₂, _∙_}
 use mathlib.Core.Logic.{_⊎_, inl, inr}
 use mathlib.Core.Bool.{true, _&&_, true≢false}
 use mathlib.Core.List.{List, [], _∷_, _++_, map, flatMap, map-map, map-id}
 use mathlib.Core.List.{List·Memᴰ, List·Memᴰ·head, List·Memᴰ·tail, Memᴰ·map, Memᴰ·of-map}
-use Prim.Native.Nat.{ℕ, zero, suc, _+_, _*_, _-_, _≤_, _<_}
-use native.Mathlib.Nat.{le-of-suc-le-suc, not-suc-le-zero, zero-mul, suc-mul, zero-add}
-use native.Mathlib.Decide.{decLt}
+use Prim.Native.Nat.{ℕ, _+_, _<_}
 use native.Mathlib.Omega.{arith}
-use lib.ListN.{length, getD, take, drop, length-map, List·getD-append}
-use lib.Seq.{getD-append-add, take-at, drop-at}
+use lib.ListN.{length, take, drop}
+use lib.Seq.{take-at, drop-at}
 use Rattle.meaning.specs.Lists.{before, Ascending, none, more}
 use Rattle.meaning.specs.Table.{Table}
-use Rattle.meaning.specs.Counting.{Position, count, below}
+use Rattle.meaning.specs.Counting.{Position, below}
 use Rattle.meaning.specs.Rounds.{Set, allSafe, maximal, maximalMembers, Within}
-use Rattle.meaning.specs.Written.{winners, positionBytes}
+use Rattle.meaning.specs.Written.{winners}
 use Rattle.meaning.specs.Join.{pairs}
 use Rattle.meaning.proofs.Tests.{both, both-left, both-right}
-use Rattle.meaning.proofs.Steps.{count-beyond, below-refl}
+use Rattle.meaning.proofs.Steps.{below-refl}
 use Rattle.meaning.proofs.Ascending.{before-cases, before-first, before-rest, append-ascends, cons-ascends}
-use Rattle.meaning.proofs.Lists.{flatMap-member, member-flatMap, map-at}
+use Rattle.meaning.proofs.Lists.{flatMap-member, member-flatMap}
 use Rattle.meaning.proofs.Positions.{allSafe-length}
 use Rattle.meaning.proofs.Rounds.{allSafe-first, winning-safe}
 use Rattle.meaning.proofs.Maximal.{member-maximal, member-in, maximal-member, maximal-top, top-maximal, members-ascend, members-are}
-use Rattle.meaning.proofs.Readings.{bytes-at}
-use Rattle.meaning.proofs.Buffers.{position-bytes}
 use Rattle.meaning.proofs.Follows.{winningSet}
 use Rattle.meaning.proofs.Union.{below-append, side-by-side}
 use Rattle.meaning.proofs.Parts.{pairs-safe}
@@ -170,35 +165,3 @@ pairs-members K t u =
     members-beside K (t .controllers) (u .controllers) (winningSet K t) (winningSet K u) (pairs K t u)
     (winning-safe K t (allSafe K (t .controllers)) (allSafe-first K t)) (winning-safe K u (allSafe K (u .controllers)) (allSafe-first K u))
     (pairs-safe K t u) (λ F G e. rw (take-at F G (t .controllers) e, drop-at F G (t .controllers) e))
-
--- the pairs of the i-th position of the first list stand from place i times the second list's length on
-pub beside-at : (Fs Gs : List Position) (i j : ℕ) → i < length Fs → j < length Gs
-    → getD (beside Fs Gs) (i * length Gs + j) [] ≡ getD Fs i [] ++ getD Gs j []
-unfolding beside flatMap
-beside-at [] Gs i j h l = absurd (not-suc-le-zero h)
-beside-at (F ∷ Fs) Gs zero j h l =
-    let row = map (λ (G : Position). F ++ G) Gs in
-    rw (zero-mul, zero-add)
-    (List·getD-append row (beside Fs Gs) [] j (omega (arith, length-map Gs (λ (G : Position). F ++ G)))
-    ∙ map-at (λ (G : Position). F ++ G) Gs j [] [] l)
-beside-at (F ∷ Fs) Gs (suc i) j h l =
-    let row = map (λ (G : Position). F ++ G) Gs in
-    let place : suc i * length Gs + j ≡ length row + (i * length Gs + j) =
-    rw suc-mul (omega (arith, length-map Gs (λ (G : Position). F ++ G))) in
-    rw place (getD-append-add row (beside Fs Gs) (i * length Gs + j) [])
-    ∙ beside-at Fs Gs i j (le-of-suc-le-suc h) l
-
--- the eight counts of two positions side by side: those of the first below n, and from there on those of the second
-module _ (n m : ℕ) (F G : Position) (sizeF : length F ≡ n) (sizeG : length G ≡ m) (room : n + m ≤ 8) where
-  pub bytes-first : (q : ℕ) → q < n → count (positionBytes (F ++ G)) q ≡ count F q
-  bytes-first q h = bytes-at (F ++ G) q (omega arith) ∙ List·getD-append F G 0 q (omega arith)
-
-  pub bytes-second : (q : ℕ) → n ≤ q → count (positionBytes (F ++ G)) q ≡ count G (q - n)
-  bytes-second q h = go (decLt q 8)
-    where
-      go : Dec (q < 8) → count (positionBytes (F ++ G)) q ≡ count G (q - n)
-      go (yes l) =
-          let place : q ≡ length F + (q - n) = omega arith in
-          bytes-at (F ++ G) q l ∙ ap (count (F ++ G)) place ∙ getD-append-add F G (q - n) 0
-      go (no l) = count-beyond (positionBytes (F ++ G)) q (omega (arith, position-bytes (F ++ G)))
-          ∙ sym (count-beyond G (q - n) (omega arith))

@@ -93,12 +93,7 @@ plus-mono K mark zero d h = zero-le
 plus-mono K mark (suc c) zero h = absurd (not-suc-le-zero h)
 plus-mono K mark (suc c) (suc d) h = omega arith
 
--- at most K + 2, and at most the sum of the count and the mark
-pub plus-cap : (K mark c : ℕ) → plus K mark c ≤ K + 2
-unfolding plus
-plus-cap K mark zero = zero-le
-plus-cap K mark (suc c) = omega arith
-
+-- at most the sum of the count and the mark
 pub plus-most : (K mark c : ℕ) → plus K mark c ≤ c + mark
 unfolding plus
 plus-most K mark zero = omega arith
@@ -120,12 +115,6 @@ plus-safe K mark (suc c) h l = omega arith
 pub plus-from-safe : (K mark c : ℕ) → plus K mark c ≤ K + 1 → c ≤ K + 1
 plus-from-safe K mark zero l = zero-le
 plus-from-safe K mark (suc c) l = omega (arith, plus-safe K mark (suc c) (omega arith) l)
-
--- an overrun stays an overrun
-pub plus-overrun : (K mark c : ℕ) → K + 1 < c → K + 1 < plus K mark c
-unfolding plus
-plus-overrun K mark zero h = absurd (not-suc-le-zero h)
-plus-overrun K mark (suc c) h = omega arith
 
 -- the step back undoes one count's step forward: c plus the mark fits under d exactly if c fits under d less the mark
 pub plus-minus : (K mark c d : ℕ) → d ≤ K + 1 → (plus K mark c ≤ d) ↔ (c ≤ d - mark)
