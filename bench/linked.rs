@@ -1,10 +1,10 @@
 //! The proved calls, linked into this program: those of include/feshamiru.rs.
 
-use crate::call::{Call, Outcome};
+use crate::call::{Call, Outcome, Use};
 use crate::calls::solved::{patience, room};
-use crate::feshamiru::{desk_parts, desk_solve};
+use crate::feshamiru::{desk_check, desk_parts, desk_solve};
 
-/// What a call writes to, in its order: winners, controller, answer.
+/// What a call writes to, in its order: winners and controller where it solves, and the answer.
 type Lent<'a> = &'a mut [Vec<u8>];
 
 fn solve(call: &Call, lent: Lent) -> u32 {
@@ -49,12 +49,31 @@ fn parts(call: &Call, lent: Lent) -> u32 {
     }
 }
 
-/// Solves into the buffers that are lent: those of `answer` once more.
+fn check(call: &Call, lent: Lent) -> u32 {
+    let (table, rows) = (call.bytes("table"), call.bytes("rows"));
+    let [answer] = lent else { panic!("one buffer is written to") };
+    // SAFETY: as above; the table and the rows are only read.
+    unsafe {
+        desk_check(
+            table.as_ptr(),
+            table.len(),
+            patience(call),
+            rows.as_ptr(),
+            rows.len(),
+            answer.as_mut_ptr(),
+            answer.len(),
+        )
+    }
+}
+
+/// Makes the call on the buffers that are lent: those of `answer` once more.
 pub fn make(call: &Call, lent: &mut Outcome) {
-    let written = lent.buffers.len() - 3;
+    let read = call.operation.buffers.iter().filter(|(_, used)| *used == Use::Read).count();
+    let written = &mut lent.buffers[read..];
     lent.result = match call.operation.name {
-        "solve" => solve(call, &mut lent.buffers[written..]),
-        _ => parts(call, &mut lent.buffers[written..]),
+        "solve" => solve(call, written),
+        "check" => check(call, written),
+        _ => parts(call, written),
     };
 }
 

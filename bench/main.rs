@@ -1,14 +1,17 @@
 //! The benchmark: the proved engine beside the second program's antichain engine, on the same
-//! tables in one run. `bench/run` links it with the proved calls and starts it.
+//! tables in one run, and the proved check of rows beside others. `bench/run` links it with the proved
+//! calls and starts it.
 //!
-//!     bench/run                       the seconds of both, and the stack of solve and of by parts
+//!     bench/run                       the seconds, and the stack of solve, by parts and check
 //!     bench/run --seed 7 --runs 20    other random tables; the best of 20 runs
 //!     bench/run --search 102 30000    looks for a table with many rounds: a seed, and how many
 //!                                     changes to try; writes target/bench/found.tab
 //!
-//! The exit status is 1 if the engines differ, and 2 if something could not be run.
+//! The exit status is 1 if answers differ, and 2 if something could not be run.
 
+mod checks;
 mod linked;
+mod raising;
 mod search;
 mod stack;
 mod times;
@@ -29,6 +32,9 @@ mod compare;
 #[allow(dead_code)]
 #[path = "../tests/second/engines/mod.rs"]
 mod engines;
+#[allow(dead_code)]
+#[path = "../tests/second/follow/mod.rs"]
+mod follow;
 #[allow(dead_code)]
 #[path = "../tests/second/make/mod.rs"]
 mod make;
@@ -51,7 +57,7 @@ mod stored;
 #[path = "../tests/second/vectors.rs"]
 mod vectors;
 
-use calls::{parts, solve};
+use calls::{check, parts, solve};
 use make::Dice;
 use std::process::ExitCode;
 use times::Line;
@@ -132,17 +138,18 @@ fn print_seconds(options: &Options) -> bool {
 
 fn benchmark(words: &[&str]) -> Result<ExitCode, String> {
     let options = options(words)?;
-    if !print_seconds(&options) {
+    if !print_seconds(&options) || !checks::print_seconds(options.seed, options.runs) {
         return Ok(ExitCode::from(1));
     }
     let calls = [
-        (stack::SINK_AND_SOLVE, "solve, work"),
-        (stack::SINK_AND_PARTS, "by parts, OWED with itself"),
+        (stack::SINK_AND_SOLVE, "solve, work, N 256"),
+        (stack::SINK_AND_PARTS, "by parts, OWED with itself, N 256"),
+        (stack::SINK_AND_CHECK, "check, winding"),
     ];
     for (word, what) in calls {
         let bytes =
             stack::needed(word).map_err(|error| format!("the stack wasn't measured: {error}"))?;
-        println!("the stack of {what} at K {PATIENCE}, N {ROOM}: {bytes} bytes");
+        println!("the stack of {what} at K {PATIENCE}: {bytes} bytes");
     }
     Ok(ExitCode::SUCCESS)
 }
@@ -161,6 +168,10 @@ fn run(words: &[&str]) -> Result<ExitCode, String> {
         }
         [stack::SINK_AND_PARTS, bytes] => {
             stack::try_call(number(bytes)?, parts::call(&OWED, &OWED, PATIENCE, ROOM))
+        }
+        [stack::SINK_AND_CHECK, bytes] => {
+            let (table, rows) = (make::winding_table(), make::winding_rows());
+            stack::try_call(number(bytes)?, check::call(&table, PATIENCE, &rows))
         }
         ["--search", seed, changes] => look_for_long(number(seed)?, number(changes)?)?,
         _ => return benchmark(words),

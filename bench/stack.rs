@@ -13,6 +13,7 @@ use std::process::{Command, Stdio};
 pub const SINK: &str = "--sink";
 pub const SINK_AND_SOLVE: &str = "--sink-and-solve";
 pub const SINK_AND_PARTS: &str = "--sink-and-parts";
+pub const SINK_AND_CHECK: &str = "--sink-and-check";
 
 const THREAD_BYTES: usize = 1 << 20;
 

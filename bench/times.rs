@@ -48,7 +48,7 @@ fn solve_by_antichain(call: &Call) {
     black_box(settled.is_ok());
 }
 
-fn seconds(work: impl FnOnce()) -> f64 {
+pub fn seconds(work: impl FnOnce()) -> f64 {
     let begun = Instant::now();
     work();
     begun.elapsed().as_secs_f64()

@@ -20,11 +20,13 @@ pub const DESK_FULL: u32 = 11;
 pub const DESK_NOTHING: u32 = 12;
 pub const DESK_LETTERS: u32 = 13;
 pub const DESK_SIZE: u32 = 14;
+pub const DESK_ROWS: u32 = 15;
 
 /// Lengths of buffers in bytes, and the largest room.
 pub const DESK_TABLE_BYTES: u32 = 4160;
 pub const DESK_WINNER_BYTES: u32 = 8;
 pub const DESK_CONTROLLER_BYTES: u32 = 32;
+pub const DESK_ROWS_BYTES: u32 = 8192;
 pub const DESK_ANSWER_BYTES: u32 = 24;
 pub const DESK_MOST_ROOM: u32 = 256;
 
@@ -64,6 +66,16 @@ extern "C" {
         winners_length: usize,
         controller: *mut u8,
         controller_length: usize,
+        answer: *mut u8,
+        answer_length: usize,
+    ) -> u32;
+
+    pub fn desk_check(
+        table: *const u8,
+        table_length: usize,
+        k: u32,
+        rows: *const u8,
+        rows_length: usize,
         answer: *mut u8,
         answer_length: usize,
     ) -> u32;

@@ -58,7 +58,7 @@ holds "the header has numbers" test "$(wc -l <"$scratch/c")" -ge 20
 holds "both declare the same numbers" diff "$scratch/c" "$scratch/rust"
 calls_in_c >"$scratch/c"
 calls_in_rust >"$scratch/rust"
-holds "the header has calls" test "$(grep -c '^call' "$scratch/c")" -ge 3
+holds "the header has calls" test "$(grep -c '^call' "$scratch/c")" -ge 4
 holds "both declare the same calls" diff "$scratch/c" "$scratch/rust"
 
 echo "$passed passed, $failed failed"

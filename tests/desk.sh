@@ -109,11 +109,11 @@ TEXT
 # A repository with the scripts as they are and nothing built.
 make_tree() {
     mkdir -p "$tree/docs" "$tree/crates/part/src" "$tree/crates/part/must-fail" "$tree/crates/desk/src" "$tree/crates/both/src" \
-        "$tree/crates/other/src"
+        "$tree/crates/accept/src" "$tree/crates/other/src"
     cp -R "$root/desk" "$root/tools" "$tree"
     cp "$root/docs/CARD.md" "$tree/docs"
-    printf '%s\n' '# a comment' 'part:' 'desk: part io' 'both: part io' 'other: part' >"$tree/crates.txt"
-    for crate in part desk both other; do echo 'fn main() {}' >"$tree/crates/$crate/src/main.rt"; done
+    printf '%s\n' '# a comment' 'part:' 'desk: part io' 'both: part io' 'accept: part io' 'other: part' >"$tree/crates.txt"
+    for crate in part desk both accept other; do echo 'fn main() {}' >"$tree/crates/$crate/src/main.rt"; done
 }
 
 # A PATH of the usual tools alone: no rt, no Graphviz.
@@ -125,10 +125,12 @@ make_plain() {
     done
 }
 
-# The program that the next calls meet: it keeps what it reads and the words it is called with, and prints these lines.
+# The program that the next calls meet: it keeps what it reads, the words it is called with and the file that the second word may name, and
+# prints these lines.
 program_prints() { # LINE..
     {
-        printf '%s\n' '#!/bin/sh' "cat >'$scratch/received'" "printf '%s\\n' \"\$@\" >'$scratch/words'" "cat <<'TEXT'"
+        printf '%s\n' '#!/bin/sh' "cat >'$scratch/received'" "printf '%s\\n' \"\$@\" >'$scratch/words'"
+        printf '%s\n' "[ ! -f \"\${2:-}\" ] || cp \"\$2\" '$scratch/received.rows'" "cat <<'TEXT'"
         printf '%s\n' "$@" 'TEXT'
     } >"$kit/program"
     chmod +x "$kit/program"
@@ -166,7 +168,7 @@ test_scripts() {
 
 test_card() {
     code=0
-    for name in REALIZABLE UNREALIZABLE BOUND ROOM LENGTH RECORD ORDER STATES START EDGE GAP FULL NOTHING LETTERS SIZE; do
+    for name in REALIZABLE UNREALIZABLE BOUND ROOM LENGTH RECORD ORDER STATES START EDGE GAP FULL NOTHING LETTERS SIZE ROWS; do
         row="^\\| $code \\| $name \\| [A-Z][^|]*\\. \\| [A-Z][^|]*\\. \\|\$"
         holds "the card has code $code, $name" grep -qE "$row" "$root/docs/CARD.md"
         code=$((code + 1))
@@ -226,6 +228,12 @@ test_calls() {
     says "one file where two are needed" 2 "Name two files with a table each: ./desk --join A B"
     call "$root/desk" --parts one two three
     says "three files where two are needed" 2 "Name two files with a table each: ./desk --parts A B"
+    call "$root/desk" --check one two
+    says "a table and rows without a patience" 2 "./desk --check TABLE ROWS K"
+    for word in '' -1 1.0 one 0000000001; do
+        call "$root/desk" --check "$root/tables/lamp.table" "$root/tables/lamp.rows" "$word"
+        says "the patience '$word'" 2 "The patience is a number from 0 to 7: ./desk --check TABLE ROWS K."
+    done
     call "$root/desk" --colour "$root/tables/owed.table"
     says "an option that is not there, and a file" 2 "./desk --help"
     call "$root/desk" --colour
@@ -253,6 +261,10 @@ test_files() {
     says "a text that never ends" 2 "$scratch/pipe has more than 1048576 bytes, or it never ends."
     stand_in --join "$root/tables/owed.table" "$scratch/nowhere"
     says "a second file that is not there" 2 "There is no file $scratch/nowhere."
+    stand_in --check "$root/tables/owed.table" "$scratch/nowhere" 0
+    says "rows that are not there" 2 "There is no file $scratch/nowhere."
+    stand_in --check "$scratch/nowhere" "$root/tables/lamp.rows" 0
+    says "a table for rows that is not there" 2 "There is no file $scratch/nowhere."
 }
 
 # ---- text and bytes
@@ -326,6 +338,9 @@ test_bad_text() {
 
 owed=$scratch/owed
 
+# What the card says of a code: its name and what it means.
+meaning_of() { awk -F ' [|] ' -v code="| $1" '$1 == code { print $2 ": " $3 }' "$root/docs/CARD.md"; } # CODE
+
 test_words() {
     owed_records | awk 'NR == 1 { print "# OWED" } { print $0 "  # comment" }' >"$owed"
     program_prints 'k 0 code 0 place 0 rounds 0 winners 1 start 0' '0 1 0 0' '0 1 1 0'
@@ -350,8 +365,7 @@ test_words() {
     for code in 2 3 4 5 6 7 8 9 10 11 12 13 14; do
         program_prints "k 0 code $code place 1 rounds 0 winners 0 start 0"
         stand_in --plain "$owed"
-        meaning=$(awk -F ' [|] ' -v code="| $code" '$1 == code { print $2 ": " $3 }' "$root/docs/CARD.md")
-        says "code $code in the card's words" 3 "Refused with code $code, $meaning"
+        says "code $code in the card's words" 3 "Refused with code $code, $(meaning_of "$code")"
     done
 }
 
@@ -418,6 +432,150 @@ test_two() {
     program_prints 'code 0 place 8 which 0 rounds 0 winners 0 start 0' '1 0 2 0' '1 1 3 0'
     stand_in --join "$scratch/one" "$scratch/two"
     says "a record that comes from neither table" 4 "a record that comes from neither table"
+}
+
+# ---- rows from elsewhere
+
+asked_rows=$scratch/rows
+
+# Rows as bytes, any four numbers a line.
+rows_as_bytes() { printf %b "$(awk '{ printf "\\0%o\\0%o\\0%o\\0%o", $1, $2, $3, $4 }')"; }
+
+# A right controller for OWED with a state of two digits and one of three: it warns when a warning is owed.
+good_rows() { printf '%s\n' '40 0 0 40' '40 0 1 255' '255 1 0 40' '255 1 1 255'; }
+
+rows_reach_the_program() { # NAME
+    rm -f "$scratch/received.rows"
+    stand_in --check "$owed" "$asked_rows" 3
+    if [ "$status" -eq 0 ] && cmp -s "$scratch/received.rows" "$scratch/rows.bytes"; then
+        pass "$1"
+    else
+        fail "$1" "status $status; the program met $(od -An -tu1 "$scratch/received.rows"): $(cat "$scratch/err")"
+    fi
+}
+
+test_rows_text() {
+    program_prints 'k 3 code 0 place 0'
+    good_rows | rows_as_bytes >"$scratch/rows.bytes"
+    good_rows >"$asked_rows"
+    rows_reach_the_program "rows as numbers"
+    holds "the patience is handed on" grep -qx 3 "$scratch/words"
+    good_rows | awk '{ printf "\t%s \t# row %d: 9 9 9 9\r\n\n  # 1 2 3 4\n", $0, NR }' >"$asked_rows"
+    rows_reach_the_program "rows with comments, blank lines and tabs"
+    good_rows | sed 's/ /   00/g' >"$asked_rows"
+    rows_reach_the_program "rows with more blanks, and zeros before a number"
+    { none_up_to 0 && echo 'k 1 code 0 place 0 rounds 1 winners 2 start 1' && good_rows; } >"$asked_rows"
+    rows_reach_the_program "rows with the answers that ./desk prints"
+    { none_up_to 0 ' which 0' && good_rows && echo 'A controller was made: with patience 1 it has 2 states of its own.'; } >"$asked_rows"
+    rows_reach_the_program "rows with the sentence that ./desk --parts prints"
+    cp "$scratch/rows.bytes" "$asked_rows"
+    rows_reach_the_program "a file of rows as bytes"
+}
+
+# A bad line is refused before anything is built or run.
+refused_rows() { # NAME LINE WHY
+    { echo '0 1 0 0' && echo && echo "$2"; } >"$asked_rows"
+    call env PATH="$plain" RATTLE_HOME="$scratch/nowhere" "$tree/desk" --check "$owed" "$asked_rows" 0
+    says "$1" 2 "Line 3 of $asked_rows $3:" "    $2" "A row is four numbers on a line of its own" "nothing was run"
+}
+
+test_bad_rows_text() {
+    refused_rows "a letter in a row" '0 1 x 0' "has something other than numbers in its row"
+    refused_rows "a number of a row left out" '0 1 0' "has fewer than four numbers"
+    refused_rows "a row without blanks" '0100' "has fewer than four numbers"
+    refused_rows "a fifth number" '0 1 0 0 0 # five' "has more than four numbers"
+    refused_rows "a number that is no byte" '0 1 1 256' "has a number over 255"
+}
+
+# What came of a check in plain words. The table is OWED, which has two outputs and two inputs.
+checked_with() { # CODE ROW..
+    program_prints "k 2 code $1 place 0"
+    shift
+    { echo '# rows' && printf '%s\n' "$@"; } >"$asked_rows"
+    stand_in --check "$owed" "$asked_rows" 2
+}
+
+finds_row() { # NAME CODE WHERE ROW..: what is said of these rows
+    finds_name=$1 finds_code=$2 finds_text=$3
+    shift 3
+    checked_with "$finds_code" "$@"
+    says "$finds_name" 3 "Refused with code $finds_code" "In $asked_rows$finds_text"
+}
+
+test_rows_words() {
+    checked_with 0 '0 1 0 0' '0 1 1 0'
+    says "rows that are right" 0 'k 2 code 0 place 0' "Yes: whoever follows these rows keeps the rules of $owed within patience 2" \
+        "Pass the rows on to the handset fitter."
+    checked_with 1 '0 0 0 0' '0 0 1 0'
+    says "rows that are wrong" 1 'k 2 code 1 place 0' "No: for some inputs, following these rows breaks the rules of $owed" \
+        "more often than patience 2 allows." "Send them back to their maker"
+    program_prints 'k 8 code 2 place 0'
+    stand_in --check "$scratch/owed.bytes" "$asked_rows" 8
+    says "a patience over 7" 3 "Refused with code 2, BOUND: The patience asked for is over 7." "Ask for a patience from 0 to 7."
+    holds "nothing more is said of it" test "$(wc -l <"$scratch/out")" -eq 3
+    program_prints 'k 2 code 9 place 12'
+    stand_in --check "$owed" "$asked_rows" 2
+    says "a record of the table" 3 "Refused with code 9, EDGE:" "The record is 4111, line 14 of $owed (record 12, counted from 0)."
+    program_prints 'k 2 code 8 place 0'
+    stand_in --check "$owed" "$asked_rows" 2
+    says "what is found in the table" 3 "In $owed: the controller-turn states are 1020 (line 2), 1100 (line 3);"
+    program_prints 'k 1 code 1 place 0'
+    stand_in --check "$owed" "$asked_rows" 2
+    says "an answer for another patience" 4 "The program's output broke off before its end"
+    for code in 2 4 5 6 7 8 9 10 13 15; do
+        checked_with "$code" '0 1 0 0' '0 1 1 0'
+        says "code $code of a check in the card's words" 3 "Refused with code $code, $(meaning_of "$code")"
+    done
+}
+
+# Each clause of 15, and the line that breaks it.
+test_rows_form() {
+    checked_with 15 '# none'
+    says "no row" 3 "In $asked_rows: there is no row." "Put right the row that is named"
+    awk 'BEGIN { for (i = 0; i < 2049; i++) print 0, 0, 0, 0 }' >"$asked_rows"
+    stand_in --check "$owed" "$asked_rows" 2
+    says "a row too many" 3 "In $asked_rows, line 2049 (0 0 0 0): there are at most 2,048 rows, and this is one more."
+    finds_row "a first input that is not 0" 15 ", line 2 (0 1 1 0): the inputs of state 0 begin with 1, and not with 0." '0 1 1 0'
+    finds_row "an input left out" 15 ", line 3 (0 1 2 0): after input 0 of state 0 comes input 2." '0 1 0 0' '0 1 2 0'
+    finds_row "an input twice" 15 ", line 3 (0 1 0 0): after input 0 of state 0 comes input 0." '0 1 0 0' '0 1 0 0'
+    finds_row "an input over 7" 15 ", line 10 (0 1 8 0): its input is 8, and the largest is 7." '0 1 0 0' '0 1 1 0' '0 1 2 0' \
+        '0 1 3 0' '0 1 4 0' '0 1 5 0' '0 1 6 0' '0 1 7 0' '0 1 8 0'
+    finds_row "a state with fewer inputs" 15 \
+        ", line 4 (3 1 0 0): the inputs of state 3 end with 0, and those of state 0, the first, with 1." \
+        '0 1 0 3' '0 1 1 0' '3 1 0 0' '4 1 0 0' '4 1 1 0'
+    finds_row "a last state with more inputs" 15 ", line 4 (3 1 1 0): the inputs of state 3 end with 1" '0 1 0 3' '3 1 0 0' '3 1 1 0'
+    finds_row "a later state that begins with input 1" 15 ", line 3 (3 1 1 0): the inputs of state 3 begin with 1" '0 1 0 3' '3 1 1 0'
+    finds_row "two outputs of a state" 15 ", line 3 (0 0 1 0): state 0 gives output 0 here and output 1 in the row before." \
+        '0 1 0 0' '0 0 1 0'
+    finds_row "an output over 7" 15 ", line 2 (0 8 0 0): its output is 8, and the largest is 7." '0 8 0 0'
+    finds_row "states that descend" 15 ", line 4 (10 1 0 9): state 10 comes after state 90. The states after the first one ascend." \
+        '9 1 0 9' '90 1 0 9' '10 1 0 9'
+    finds_row "the first state again" 15 ", line 4 (9 1 0 9): state 9, the first, comes again." '9 1 0 9' '10 1 0 9' '9 1 0 9'
+    finds_row "a next state without rows" 15 ", line 3 (0 1 1 100): its next state 100 has no rows." '0 1 0 0' '0 1 1 100'
+}
+
+# The same of bytes, by the row's number; and 13, whose rows are well formed.
+test_rows_letters() {
+    program_prints 'k 2 code 15 place 0'
+    printf '0 1 0 0\n0 1 0 0\n' | rows_as_bytes >"$asked_rows"
+    stand_in --check "$owed" "$asked_rows" 2
+    says "bytes with an input twice" 3 \
+        "In $asked_rows, row 1 counted from 0, bytes 4 to 7 (0 1 0 0): after input 0 of state 0 comes input 0." \
+        "$asked_rows was taken as plain bytes."
+    printf '\0\1\0\0\0\1\1' >"$asked_rows"
+    stand_in --check "$owed" "$asked_rows" 2
+    says "bytes that are cut short" 3 "In $asked_rows: 7 bytes are no whole number of rows."
+    finds_row "an output that the table does not have" 13 ", line 4 (5 2 0 0): its output is 2, and the outputs of the table are 0 to 1." \
+        '0 1 0 0' '0 1 1 0' '5 2 0 0' '5 2 1 0'
+    says "what to do then" 3 "Use the same letters in both."
+    finds_row "an input too many" 13 ", line 4 (0 1 2 0): its input is 2, and the inputs of the table are 0 to 1." \
+        '0 1 0 0' '0 1 1 0' '0 1 2 0'
+    finds_row "an input too few" 13 ", line 2 (0 1 0 3): the inputs end with 0, and the inputs of the table are 0 to 1." '0 1 0 3' '3 1 0 0'
+    program_prints 'k 2 code 13 place 0'
+    printf '7 0 0 7\n7 0 1 7\n9 3 0 7\n9 3 1 7\n' | rows_as_bytes >"$asked_rows"
+    stand_in --check "$owed" "$asked_rows" 2
+    says "bytes with an output that the table does not have" 3 \
+        "In $asked_rows, row 2 counted from 0, bytes 8 to 11 (9 3 0 7): its output is 3" "$asked_rows was taken as plain bytes."
 }
 
 # ---- output that breaks off
@@ -681,6 +839,9 @@ test_built() {
     call "$root/desk" --parts "$root/tables/owed.table" "$root/tables/owed.table"
     says "the program for two tables is built" 0 'k 0 code 0 '
     [ "$status" -eq 0 ] || finish
+    call "$root/desk" --check "$root/tables/lamp.table" "$root/tables/lamp.rows" 1
+    says "the program for rows is built" 0 'k 1 code 0 '
+    [ "$status" -eq 0 ] || finish
 }
 
 test_tables() {
@@ -723,7 +884,8 @@ test_examples() {
     holds "docs/TABLES.md shows records" test -s "$scratch/records"
     cat "$root/tables/owed.table" "$root/tables/lamp.table" >"$scratch/tables"
     holds "they are records of OWED and LAMP" test -z "$(grep -vxF -f "$scratch/tables" "$scratch/records")"
-    { grep -v '^A' "$expected/owed.said" && grep -v '^A' "$expected/lamp.said" && cat "$root/crates/both/stdout"; } >"$scratch/answers"
+    { grep -v '^A' "$expected/owed.said" && grep -v '^A' "$expected/lamp.said" && cat "$root/crates/both/stdout" \
+        "$root/crates/accept/stdout"; } >"$scratch/answers"
     shown '\(k [0-9].*\|[0-9]* [0-9]* [0-9]* [0-9]*\)' >"$scratch/shown"
     holds "docs/TABLES.md shows the answers" cmp "$scratch/answers" "$scratch/shown"
     both_records >"$asked"
@@ -764,6 +926,47 @@ test_joins() {
     call "$root/desk" --join "$one" "$asked"
     says "a fault of the second table" 3 'code 9, EDGE' "The record is 4112, line 13 of $asked (record 12, counted from 0)."
     holds "no table is written then" test ! -s "$scratch/out"
+}
+
+# What ./desk --check answers for the rows in $asked_rows and a table.
+checks() { # NAME STATUS TABLE PATIENCE TEXT..
+    checks_name=$1 checks_status=$2
+    call "$root/desk" --check "$3" "$asked_rows" "$4"
+    shift 4
+    says "$checks_name" "$checks_status" "$@"
+}
+
+test_checks() {
+    lamp=$root/tables/lamp.table
+    cp "$root/tables/lamp.rows" "$asked_rows"
+    checks "a maker's rows with patience 1" 0 "$lamp" 1 'k 1 code 0 place 0' "Yes: whoever follows these rows keeps the rules of $lamp"
+    checks "a maker's rows with patience 0" 1 "$lamp" 0 'k 0 code 1 place 0' "No: for some inputs"
+    checks "a maker's rows with patience 8" 3 "$lamp" 8 'k 8 code 2 place 0' 'code 2, BOUND'
+    checks "a maker's rows for a table with other inputs" 3 "$root/tables/night.table" 0 'k 0 code 13 place 0' \
+        "In $asked_rows, line 9 (7 0 1 20): the inputs end with 1, and the inputs of the table are 0 to 3."
+    cp "$root/crates/accept/data/lamp.rows" "$asked_rows"
+    checks "a maker's rows as bytes" 0 "$lamp" 1 'k 1 code 0 place 0' "Yes: "
+    for table in owed silent first night loud lamp calm; do
+        "$root/desk" "$root/tables/$table.table" >"$asked_rows"
+        patience=$(awk '$1 == "k" { k = $2 } END { print k }' "$asked_rows")
+        checks "$table: what ./desk prints is right" 0 "$root/tables/$table.table" "$patience" "k $patience code 0 place 0" "Yes: "
+    done
+    "$root/desk" "$root/tables/loud.table" >"$asked_rows"
+    checks "loud: with less patience it is not" 1 "$root/tables/loud.table" 0 'k 0 code 1 place 0' "No: "
+    "$root/desk" --parts "$lamp" "$root/tables/calm.table" >"$asked_rows"
+    checks "what ./desk --parts prints is right for the first table" 0 "$lamp" 1 "Yes: "
+    checks "and for the second" 0 "$root/tables/calm.table" 1 "Yes: "
+    sed 's/^20 1 1/20 1 2/' "$root/tables/lamp.rows" >"$asked_rows"
+    checks "rows with an input changed" 3 "$lamp" 1 'k 1 code 15 place 0' 'code 15, ROWS' \
+        "In $asked_rows, line 11 (20 1 2 200): after input 0 of state 20 comes input 2."
+    sed 's/^20 1/20 2/' "$root/tables/lamp.rows" >"$asked_rows"
+    checks "rows with an output changed" 3 "$lamp" 1 'k 1 code 13 place 0' 'code 13, LETTERS' \
+        "In $asked_rows, line 10 (20 2 0 7): its output is 2, and the outputs of the table are 0 to 1."
+    changed '/^4111/d'
+    checks "rows for a table with a gap" 3 "$asked" 1 'k 1 code 10 place 0' 'code 10, GAP' 'no edge for input 1 (no record begins with 411)'
+    changed 's/^4111/4112/'
+    checks "rows for a table with an edge to nowhere" 3 "$asked" 1 'k 1 code 9 place 12' \
+        "The record is 4112, line 13 of $asked (record 12, counted from 0)."
 }
 
 test_refusals() {
@@ -814,6 +1017,11 @@ test_bad_text
 test_words
 test_finds
 test_two
+test_rows_text
+test_bad_rows_text
+test_rows_words
+test_rows_form
+test_rows_letters
 test_broken_output
 test_building
 test_failed_check
@@ -828,5 +1036,6 @@ test_built
 test_tables
 test_examples
 test_joins
+test_checks
 test_refusals
 finish

@@ -1,8 +1,8 @@
 #!/bin/sh
-# tests/readme.sh: what README.md shows is so: the table and the answer of its example, and the programs in C and Rust, which compile, run
-# and print what it says by its own commands; and every file it names is there. Where the machine is not x86-64, the commands for x86-64 are
-# not run, and the Rust program is compiled but not linked: a line 'skipped: ..' says so. Needs target/staticlib/libcalls.a ('rt staticlib
-# calls' writes it). Prints last 'N passed, M failed'.
+# tests/readme.sh: what README.md shows is so: the table and the answer of its example, the check of a maker's rows, and the programs in C
+# and Rust, which compile, run and print what it says by its own commands; and every file it names is there. Where the machine is not
+# x86-64, the commands for x86-64 are not run, and the Rust program is compiled but not linked: a line 'skipped: ..' says so. Needs
+# target/staticlib/libcalls.a ('rt staticlib calls' writes it). Prints last 'N passed, M failed'.
 set -u
 cd "$(dirname "$0")/.." || exit 2
 # shellcheck disable=SC1091
@@ -27,7 +27,7 @@ in_order() { # SHOWN FILE: every line shown is one of the file, in the same orde
         END { exit missing }' "$1"
 }
 
-prints() { # COMMAND: one that README.md gives; it prints what README.md says
+prints() { # COMMAND: one that README.md gives; it prints what README.md says, which is in $scratch/answer
     rm -f target/example target/bin/example
     set_in "$1" >"$scratch/command"
     [ -s "$scratch/command" ] && sh -eu "$scratch/command" >"$scratch/printed" && diff "$scratch/printed" "$scratch/answer"
@@ -38,6 +38,10 @@ grep '^[1-4]' tables/owed.table >"$scratch/owed"
 holds "the table is tables/owed.table" diff "$scratch/records" "$scratch/owed"
 set_in 'k [0-9].*' '[0-9] [0-9] [0-9] [0-9]' 'A controller was made.*' | sed '/^A controller/q' >"$scratch/said"
 holds "the answer is what ./desk --plain says" diff "$scratch/said" tests/expected/owed.said
+
+set_in 'k [0-9] code [0-9] place [0-9]' 'Yes: .*' 'Pass the rows .*' >"$scratch/answer"
+holds "what checking rows prints is shown" test "$(wc -l <"$scratch/answer")" -eq 3
+holds "./desk --check" prints '\./desk --check .*'
 
 text_in c >"$scratch/c"
 holds "the C text is of tests/c/example.c" in_order "$scratch/c" tests/c/example.c

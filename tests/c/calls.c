@@ -16,6 +16,7 @@ static const struct { const char *name; uint32_t code; } codes[] = {
     {"ROOM", DESK_ROOM}, {"LENGTH", DESK_LENGTH}, {"RECORD", DESK_RECORD}, {"ORDER", DESK_ORDER},
     {"STATES", DESK_STATES}, {"START", DESK_START}, {"EDGE", DESK_EDGE}, {"GAP", DESK_GAP},
     {"FULL", DESK_FULL}, {"NOTHING", DESK_NOTHING}, {"LETTERS", DESK_LETTERS}, {"SIZE", DESK_SIZE},
+    {"ROWS", DESK_ROWS},
 };
 
 /* A buffer before the call, or as it has to be afterwards; the bytes after it are looked at too. */
@@ -190,6 +191,10 @@ static void try_null(void) {
     tell("solve, every buffer null with length 0", code == DESK_ROOM ? NULL : "the result");
     code = desk_parts(NULL, 0, NULL, 0, 8, 1, NULL, 0, NULL, 0, NULL, 0);
     tell("parts, every buffer null with length 0", code == DESK_BOUND ? NULL : "the result");
+    code = desk_check(NULL, 0, 0, NULL, 0, answer, sizeof answer);
+    tell("check, table and rows null with length 0", code == DESK_LENGTH ? NULL : "the result");
+    code = desk_check(NULL, 0, 0, NULL, 0, NULL, 0);
+    tell("check, every buffer null with length 0", code == DESK_ROOM ? NULL : "the result");
 }
 
 int main(int words, char **word) {

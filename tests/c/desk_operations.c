@@ -18,9 +18,14 @@ static uint32_t parts(const uint32_t *numbers, const struct buffer *buffers) {
     return desk_parts(LENT(0), LENT(1), numbers[0], numbers[1], LENT(2), LENT(3), LENT(4));
 }
 
+static uint32_t check(const uint32_t *numbers, const struct buffer *buffers) {
+    return desk_check(LENT(0), numbers[0], LENT(1), LENT(2));
+}
+
 const struct operation operations[] = {
     {"solve", 2, 4, solve},
     {"join", 0, 4, join},
     {"parts", 2, 5, parts},
+    {"check", 1, 3, check},
     {"", 0, 0, NULL},
 };

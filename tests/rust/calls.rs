@@ -1,7 +1,7 @@
 //! The calls from Rust, by the declarations of include/feshamiru.rs: every case of tests/vectors with its
-//! result and every byte of the lent buffers; then several threads at once, and result buffers that
-//! nothing was written to. A line for each check that failed, and last 'N passed, M failed'; the exit
-//! status is 1 if any failed.
+//! result and every byte of the lent buffers and beyond them; then several threads at once, and result
+//! buffers that nothing was written to. A line for each check that failed, and last 'N passed, M failed';
+//! the exit status is 1 if any failed.
 //!
 //!     rustc --edition 2021 -L target/staticlib -l static=calls -o target/from_rust tests/rust/calls.rs
 
@@ -16,9 +16,10 @@ use vectors::{Case, Part, Vectors};
 
 const VECTORS: &str = include_str!("../vectors");
 const ANSWER_BYTES: usize = 24;
+const MARGIN: usize = 64;
 const THREADS: usize = 8;
 
-const CODES: [(&str, u32); 15] = [
+const CODES: [(&str, u32); 16] = [
     ("REALIZABLE", DESK_REALIZABLE),
     ("UNREALIZABLE", DESK_UNREALIZABLE),
     ("BOUND", DESK_BOUND),
@@ -34,6 +35,7 @@ const CODES: [(&str, u32); 15] = [
     ("NOTHING", DESK_NOTHING),
     ("LETTERS", DESK_LETTERS),
     ("SIZE", DESK_SIZE),
+    ("ROWS", DESK_ROWS),
 ];
 
 fn code(name: &str) -> u32 {
@@ -80,15 +82,26 @@ unsafe fn make(call: &str, numbers: &[u32], buffers: &[Slice]) -> u32 {
             first.0, first.1, second.0, second.1, *k, *room, winners.0, winners.1, rows.0, rows.1,
             answer.0, answer.1,
         ),
+        ("check", [k], [table, rows, answer]) => {
+            desk_check(table.0, table.1, *k, rows.0, rows.1, answer.0, answer.1)
+        }
         _ => panic!("no such call: {call}"),
     }
 }
 
+/// The same bytes and a margin after them, which no call is lent.
+fn with_margin(bytes: Vec<u8>) -> Vec<u8> {
+    let long = bytes.len();
+    [&bytes[..], &lent(long + MARGIN)[long..]].concat()
+}
+
 fn holds(case: &Case) -> bool {
-    let (mut before, after): (Vec<_>, Vec<_>) = case.parts.iter().map(buffer).unzip();
+    let (before, after): (Vec<_>, Vec<_>) = case.parts.iter().map(buffer).unzip();
+    let [mut before, after] =
+        [before, after].map(|list| list.into_iter().map(with_margin).collect::<Vec<_>>());
     let slices: Vec<Slice> =
-        before.iter_mut().map(|bytes| (bytes.as_mut_ptr(), bytes.len())).collect();
-    // SAFETY: each buffer is its own and comes with its length.
+        before.iter_mut().map(|bytes| (bytes.as_mut_ptr(), bytes.len() - MARGIN)).collect();
+    // SAFETY: each buffer is its own and comes with no more than its length.
     let result = unsafe { make(&case.call, &case.numbers, &slices) };
     result == code(&case.gives) && before == after
 }

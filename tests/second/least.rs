@@ -6,14 +6,16 @@ use crate::rules::codes::name;
 use crate::session::Session;
 
 /// So many calls the proved archive must have answered.
-const PROVED: u64 = 40_000;
+const PROVED: u64 = 70_000;
 
 /// What must have been explored at least.
-const EXPLORED: [(&str, u64); 4] = [
+const EXPLORED: [(&str, u64); 6] = [
     ("winners from which a controller was played to the end", 9_000),
     ("positions beyond the winners from which the world won", 300_000),
     ("starts of unrealizable tables from which it won", 7_000),
     ("tables of which every position was tried", 6_000),
+    ("rows from elsewhere that were played to the end", 4_800),
+    ("rows from elsewhere that were played until a run passed K", 2_400),
 ];
 
 /// "  120 of at least 100: what"
@@ -48,8 +50,9 @@ fn laws(session: &mut Session) {
 fn explored(session: &mut Session) {
     println!("explored");
     let found = session.explored;
-    let numbers = [found.played, found.lost, found.lost_starts, found.whole];
-    for (number, (what, least)) in numbers.into_iter().zip(EXPLORED) {
+    let played = [found.played, found.lost, found.lost_starts, found.whole];
+    let numbers = played.into_iter().chain([found.kept, found.overrun]);
+    for (number, (what, least)) in numbers.zip(EXPLORED) {
         row(session, number, least, what);
     }
     println!("  broken off as too long: {}", found.broken_off);

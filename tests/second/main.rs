@@ -1,4 +1,4 @@
-//! The second program: written from document 01 alone, and held against the proved one.
+//! The second program: written from documents 01 and 02 alone, and held against the proved one.
 //!
 //! Its oracles are held against each other, and with `--calls` every call is put to the proved archive
 //! as well. The exit status is 1 if anything differs.
@@ -15,9 +15,11 @@
 //!     second --desk 'tools/program desk' --cases 100
 //!                                   the desk program's text, on stored tables and 100 others
 //!
-//! rules/ is what the document says of records, marks, starts and answers; engines/ solves, in two ways;
-//! play/ plays what was solved, both sides; call.rs says what a call is and calls/ has one file for each;
-//! laws/ is demand 3; make/ draws tables; session.rs puts calls and counts; spoil/ is the negative control.
+//! rules/ is what the documents say of records, marks, starts, rows and answers; engines/ solves, in two
+//! ways; follow/ follows rows, in two ways; play/ plays what was solved, both sides, and rows from
+//! elsewhere; call.rs says what a call is and calls/ has one file for each, or a folder; laws/ is demand 3,
+//! and what is said of rows; make/ draws tables and rows; session.rs puts calls and counts; spoil/ is the
+//! negative control.
 //! A new call is a file in calls/, its line in calls/mod.rs and its wrapper in tests/c, in the operations
 //! of its archive.
 
@@ -26,6 +28,7 @@ mod calls;
 mod compare;
 mod desk;
 mod engines;
+mod follow;
 mod laws;
 mod least;
 mod make;
@@ -45,7 +48,7 @@ use session::{Seen, Session};
 use std::io;
 use std::process::ExitCode;
 
-const CASES: u64 = 19_000;
+const CASES: u64 = 25_400;
 const DESK_CASES: u64 = 200;
 
 /// How many passed and how many failed.

@@ -1,10 +1,11 @@
-//! The stored cases: those of `tests/vectors`, the limits of a table, and four hard tables with known
-//! answers. The program of cases' stored output is held against the vectors too.
+//! The stored cases: those of `tests/vectors`, the limits of a table and of rows, and four hard tables and
+//! two sets of rows with known answers. The program of cases' stored output is held against the vectors too.
 
 use crate::call::{lent, Buffer, Call, Layout, Outcome};
-use crate::calls::{join, parts, solve, solved, ALL};
+use crate::calls::{check, join, parts, solve, solved, ALL};
+use crate::make::{overwound_rows, winding_rows, winding_table, MOST_ENTRIES};
 use crate::rules::answer::{Answer, ANSWER_BYTES};
-use crate::rules::codes::{FULL, NAMES};
+use crate::rules::codes::{FULL, NAMES, REALIZABLE, ROWS, UNREALIZABLE};
 use crate::session::{Session, EXACT};
 use crate::vectors::{Case, Part, Vectors};
 
@@ -194,6 +195,26 @@ fn of_hard_tables(session: &mut Session) {
     }
 }
 
+/// 8,192 bytes of rows with 256 states, and a row or a byte more; and those with much work in them.
+fn of_rows(session: &mut Session) {
+    let row = |number: usize| [(number / 8) as u8, 7, (number % 8) as u8, (number / 7) as u8];
+    let rows: Vec<u8> = (0..2048).flat_map(row).collect();
+    let longer = |more: &[u8]| [&rows, more].concat();
+    let (table, winding) = (winding_table(), winding_rows());
+    let cases = [
+        (check::call(&fullest(), 0, &rows), REALIZABLE),
+        (check::call(&fullest(), 0, &longer(&[255, 7, 7, 0])), ROWS),
+        (check::call(&fullest(), 0, &longer(&[255])), ROWS),
+        (check::call(&table, MOST_ENTRIES, &winding), REALIZABLE),
+        (check::call(&table, MOST_ENTRIES - 1, &winding), UNREALIZABLE),
+        (check::call(&table, MOST_ENTRIES, &overwound_rows()), UNREALIZABLE),
+    ];
+    for (call, code) in &cases {
+        let wanted = Some(Answer { code: *code, ..Answer::default() });
+        session.put_knowing(call, "this code", |outcome| solved::answer(call, outcome) == wanted);
+    }
+}
+
 /// Tables for the desk program: OWED first, then the other two and their join, every fault, the
 /// hard ones, and lengths about the longest.
 pub fn tables() -> Vec<Vec<u8>> {
@@ -221,4 +242,5 @@ pub fn run(session: &mut Session) {
     of_the_limits(session);
     of_the_bytes(session);
     of_hard_tables(session);
+    of_rows(session);
 }

@@ -3,7 +3,7 @@
 
 BEGIN {
     print "<!DOCTYPE html>\n<html lang=\"en\">\n<meta charset=\"utf-8\">\n<title>The card</title>"
-    print "<style>\n@page { size: A4; margin: 15mm }\nbody { font: 12pt sans-serif; margin: 0 }"
+    print "<style>\n@page { size: A4; margin: 15mm }\nbody { font: 11pt sans-serif; margin: 0 }"
     print "table { border-collapse: collapse; width: 100% }"
     print "th, td { border: 1px solid #888; padding: 3pt 5pt; text-align: left; vertical-align: top }\ntr { page-break-inside: avoid }"
     print "li { margin-bottom: 3pt }\n</style>"

@@ -23,7 +23,12 @@ say() {
     case $code in
     0) say_made ;;
     1) say_none ;;
-    *) say_refused ;;
+    *)
+        [ "$k" -eq 0 ] || tell "Tried with $(patience_to $((k - 1))): no controller. With patience $k the answer is another:"
+        at=$which
+        [ "$tables" -eq 2 ] || at=1
+        say_refused
+        ;;
     esac
 }
 
@@ -43,11 +48,9 @@ say_none() {
 # holds out, is named here when it comes.
 further() { tell "./desk --picture-table draws a table, to see where its marked states are entered."; }
 
+# $at is the file at fault, 0 for both together or for none.
 say_refused() {
-    [ "$k" -eq 0 ] || tell "Tried with $(patience_to $((k - 1))): no controller. With patience $k the answer is another:"
     tell "Refused with code $code, $(card 3): $(card 4)"
-    at=$which
-    [ "$tables" -eq 2 ] || at=1
     look
     card 5
     for number in 1 2; do
@@ -56,7 +59,7 @@ say_refused() {
     done
 }
 
-# Where to look: the record, or what was found in its place where a code comes without one. $at is the table at fault, 0 for both together.
+# Where to look: the record, or what was found in its place where a code comes without one.
 look() {
     case $code in
     5 | 9) tell "The record is $(record "$at" "$place") of $(name_of "$at") (record $place, counted from 0)." ;;
@@ -66,8 +69,13 @@ look() {
         ;;
     4 | 7 | 8 | 10) tell "In $(name_of "$at"): $(awk -v code="$code" -f "$tools/look.awk" "$scratch/$at.records")" ;;
     11) [ "$tables" -eq 1 ] || tell_full ;;
-    13 | 14) first=$first second=$second awk -v code="$code" -f "$tools/pair.awk" "$scratch/1.records" "$scratch/2.records" ;;
+    13 | 14) if [ "$task" = check ]; then look_at_rows; else look_at_pair; fi ;;
+    15) look_at_rows ;;
     esac
+}
+
+look_at_pair() {
+    first=$first second=$second awk -v code="$code" -f "$tools/pair.awk" "$scratch/1.records" "$scratch/2.records"
 }
 
 tell_full() {

@@ -22,8 +22,10 @@ use Rattle.meaning.specs.Written.{winners, startState}
 use Rattle.meaning.specs.Join.{joined, pairs, joinedBytes, joinedTable}
 use Rattle.meaning.specs.Answers.{startOf, refused, Solved, unsolved, solvedFrom, solve, Joined, join, parts, unjoined, joinedInto}
 use Rattle.meaning.specs.Answers.{answered}
-use Rattle.meaning.specs.Checks.{Check, judge, bound, room, roomToJoin, wrongLength, descent, dangling, tableChecks, stageChecks, check}
+use Rattle.meaning.specs.Checks.{Check, judge, bound, room, roomToJoin, wrongSize, descent, dangling, tableChecks, stageChecks, check}
 use Rattle.meaning.specs.Checks.{solveChecks, pairChecks, otherLetters, tooLarge, joinChecks, partsChecks, Passes, partsStages}
+use Rattle.meaning.specs.Play.{rowsIn}
+use Rattle.meaning.specs.Controller.{misshapen, foreign, checkChecks, verdictOn, CheckCall}
 use Rattle.meaning.proofs.Tests.{neither-right, first-le, cond-cases}
 use Rattle.meaning.proofs.Checks.{passes-at, passes-right}
 use Rattle.meaning.proofs.Answers.{solve-passes, parts-passes}
@@ -70,7 +72,7 @@ abbrev Few : Check → Type 0
 Few c = (c .faultAt ≤ 4160) × (c .table ≤ 2)
 
 table-few : (which : ℕ) (bytes : List ℕ) → which ≤ 2 → Each Few (tableChecks which bytes)
-unfolding tableChecks wrongLength
+unfolding tableChecks wrongSize
 table-few which bytes w =
     let rs = recordsOf bytes in
     let ragged = eqb (length bytes) 0 || not (eqb (length bytes % 4) 0) in
@@ -196,7 +198,7 @@ parts-fits one two K N win con =
     (room-grants N win con (q .roomy) .within) (passes-at (stageChecks 0 K N both X) (q .last-stage) 0 (bound 0) (lit< tt)))
 
 pub join-fits : (one two out : List ℕ) → Fit (fields (join one two out .answer))
-unfolding join joinChecks roomToJoin fields wrongLength
+unfolding join joinChecks roomToJoin fields wrongSize
 join-fits one two out =
     let new = joinedBytes one two in
     judged-fits (λ (j : Joined). j .answer) (unjoined out) (joinedInto new out) (λ c. refl) (joinChecks one two out)
@@ -207,6 +209,23 @@ join-fits one two out =
     let size = ltb-false 4160 (length new)
     (neither-right ragged (ltb 4160 (length new)) (joined-length (recordsOf one) (recordsOf two) pair)) in
     (lit< tt, (omega arith, (lit< tt, (lit< tt, (lit< tt, (lit< tt, tt)))))))
+
+verdict-fits : (right : Bool) → Fit (fields (verdictOn right))
+unfolding fields
+verdict-fits true = (lit< tt, (lit< tt, (lit< tt, (lit< tt, (lit< tt, (lit< tt, tt))))))
+verdict-fits false = (lit< tt, (lit< tt, (lit< tt, (lit< tt, (lit< tt, (lit< tt, tt))))))
+
+pub check-fits : (bytes : List ℕ) (K : ℕ) (rows : List ℕ) (call : CheckCall bytes K rows) → Fit (fields (call .answer))
+unfolding checkChecks bound misshapen foreign
+check-fits bytes K rows call =
+    let none : (0 ≤ 4160) × (0 ≤ 2) = (zero-le, zero-le) in
+    let right = call .promise .right in
+    rw (call .promise .answers)
+    (judged-fits (λ (a : Answer). a) refused (verdictOn right) (λ c. refl) (checkChecks bytes K rows) (
+      λ _. none,
+      λ _. each-append Few (tableChecks 0 bytes) (misshapen rows ∷ foreign (stated bytes) (rowsIn rows) ∷ []) (table-few 0 bytes zero-le)
+          (λ _. none, λ _. (λ _. none, λ _. tt)),
+    ) (λ _. verdict-fits right))
 
 -- the answer is six fields of four bytes, low byte first: the first 24 bytes of the answer's buffer say the whole answer
 pub said : (a : Answer) (ans : List ℕ) → Fit (fields a) → numbersIn (take 24 (written (answerBytes a) ans)) ≡ fields a

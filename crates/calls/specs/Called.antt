@@ -2,13 +2,14 @@
 use mathlib.Core.Path.{_≡_}
 use mathlib.Core.Bool.{cond}
 use mathlib.Core.List.{List, [], _∷_, flatMap}
-use Prim.Native.Nat.{ℕ, _+_, _*_, _/_, _%_}
+use Prim.Native.Nat.{ℕ, _+_, _*_, _/_, _%_, _≤_, _<_}
 use lib.ListN.{length, take}
 use lib.Dec.{ltb}
 use Rattle.meaning.specs.declared.Answer.{Answer}
 use Rattle.meaning.specs.declared.Refusal.the-variants.{Bound, Room}
 use Rattle.meaning.specs.Lists.{written}
 use Rattle.meaning.specs.Answers.{numberOf, codeOf, startOf, Solved, solve, Joined, join, parts}
+use Rattle.meaning.specs.Controller.{Found, CheckCall}
 use Rattle.meaning.specs.Calls as Solving
 use Rattle.meaning.specs.Calls.{Call, code}
 
@@ -71,6 +72,13 @@ calledJoin one two out ans =
     cond (ltb (length ans) 24) (joins (numberOf Room) out ans)
     (joins (codeOf (j .answer .verdict)) (j .outAfter) (written (answerBytes (j .answer)) ans))
 
+-- And for a check of rows, which is lent the answer's buffer alone: with too short a one the result is 2 or 3 and nothing is written;
+-- otherwise what is found is laid down, and the result is its code
+pub record CalledCheck (table : List ℕ) (K : ℕ) (rows before : List ℕ) (result : ℕ) (after : List ℕ) : Type 0 where
+  pub short : length before < 24 → (result ≡ unanswered K) × (after ≡ before)
+  pub long : 24 ≤ length before
+      → (a : Answer) × Found table K rows a × (result ≡ codeOf (a .verdict)) × (after ≡ written (answerBytes a) before)
+
 -- What a caller learns from a call for C: the buffers that it lent, and what the call left of its result and of them
 pub record Lent : Type 0 where
   pub winnersBefore : List ℕ
@@ -89,6 +97,12 @@ pub record LentToJoin : Type 0 where
 
 abbrev pub CJoinCall : List ℕ → List ℕ → Type 0
 CJoinCall one two = Call (λ (b : LentToJoin). calledJoin one two (b .outBefore) (b .answerBefore))
+
+pub record CCheckCall (table : List ℕ) (K : ℕ) (rows : List ℕ) : Type 0 where
+  pub answerBefore : List ℕ
+  pub result : ℕ
+  pub answerAfter : List ℕ
+  pub promise : CalledCheck table K rows answerBefore result answerAfter
 
 -- the numbers that bytes say, four by four, low byte first
 abbrev pub numbersIn : List ℕ → List ℕ
@@ -114,3 +128,9 @@ pub record HeardJoin {outcome : List ℕ → Joined} (lent : LentToJoin) (left :
   pub result-code : left .result ≡ code (call .left .answer)
   pub out-left : left .outAfter ≡ call .left .outAfter
   pub answer-said : numbersIn (take 24 (left .answerAfter)) ≡ fields (call .left .answer)
+
+-- and a call for C that checks rows
+pub record HeardCheck {table : List ℕ} {K : ℕ} {rows : List ℕ} (said : CCheckCall table K rows) (call : CheckCall table K rows)
+    : Type 0 where
+  pub result-code : said .result ≡ code (call .answer)
+  pub answer-said : numbersIn (take 24 (said .answerAfter)) ≡ fields (call .answer)

@@ -5,7 +5,7 @@ pub mod lay;
 ghost use mathlib.Core.Path.{_≡_};
 ghost use mathlib.Core.Bool.{cond};
 ghost use lib.Dec.{ltb};
-ghost use Rattle.calls.specs.Called.{called, calledSolve, calledParts, joins, calledJoin};
+ghost use Rattle.calls.specs.Called.{unanswered as unansweredFor, called, calledSolve, calledParts, joins, calledJoin, CalledCheck};
 
 // Solves a table for the patience count k, with room for so many positions.
 #[no_mangle]
@@ -56,6 +56,25 @@ pub extern "C" fn desk_parts(
     let room = answered_room(room, answer.len());
     let solved = join::parts(first, second, k as usize, room, winners, controller);
     lay::report(solved, answer)
+}
+
+// Checks rows, whoever made them, against a table for the patience count k.
+#[no_mangle]
+pub extern "C" fn desk_check(table: &[u8], k: u32, rows: &[u8], answer: &mut [u8]) -> u32
+    ensures { λ r. ⌜ CalledCheck (now (table .entry)) k (now (rows .entry)) (now (answer .entry)) r (now (answer .exit)) ⌝ }
+{
+    if 24 <= answer.len() {
+        let found = checker::check(table, k as usize, rows);
+        return lay::report(found, answer);
+    }
+    unanswered(k)
+}
+
+// The result with too short an answer's buffer: 2 comes before 3.
+fn unanswered(k: u32) -> u32
+    ensures { λ r. ⌜ r ≡ unansweredFor k ⌝ }
+{
+    if 7 < k { 2 } else { 3 }
 }
 
 // The room for positions, or none with too short an answer's buffer: which is then refused together

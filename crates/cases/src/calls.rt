@@ -79,16 +79,24 @@ pub fn joined(name: &[u8], first: &[u8], second: &[u8], out: &mut [u8]) -> usize
     answer.place
 }
 
-// A call at K 7 on the table in a file, with buffers of 9s for 256 positions.
-fn large(name: &[u8], file: &[u8], room: usize) {
+// Reads the table in a file, and answers how many bytes it has; 0 if it can't be read.
+pub fn read(file: &[u8], table: &mut [u8]) -> usize
+    ensures { λ n. ⌜ Counts n (now (table .exit)) ⌝ }
+{
     let fd = os::open_read(file);
     if fd < 0 {
         os::fail(file);
-        return;
+        return 0;
     }
-    let mut table = [0u8; 4161];
-    let n = io::read_full(fd, &mut table);
+    let n = io::read_full(fd, table);
     libc::close(fd);
+    n
+}
+
+// A call at K 7 on the table in a file, with buffers of 9s for 256 positions.
+fn large(name: &[u8], file: &[u8], room: usize) {
+    let mut table = [0u8; 4161];
+    let n = read(file, &mut table);
     let mut winners = [9u8; 2048];
     let mut controller = [9u8; 8192];
     let answer = game::solve(&table[..n], 7, room, &mut winners, &mut controller);

@@ -1,8 +1,9 @@
 // Runs tables of each refusal through the checks and prints code and place; then document 01's calls,
-// three hard tables, and joins and parts, and prints answers and bytes. What it prints is held to the
-// stored output.
+// three hard tables, and joins and parts, and prints answers and bytes; and last checks controllers
+// from elsewhere. What it prints is held to the stored output.
 mod calls;
 mod joins;
+mod makers;
 mod print;
 mod tables;
 
@@ -96,4 +97,11 @@ fn main() {
     joins::grouped();
     joins::with_itself();
     joins::full();
+    makers::written();
+    makers::right();
+    makers::wrong();
+    makers::longest();
+    makers::table_refused();
+    makers::rows_refused();
+    makers::letters_refused();
 }

@@ -1,6 +1,7 @@
 // What a call answered and what it left in its buffers, as text.
 use libc::STDOUT_FILENO;
 use meaning::Answer;
+ghost use Prim.Native.Nat.{_≤_};
 
 // The call's name and the answer's fields, the bytes of winners and rows that the answer speaks of,
 // and how many 9s stand at the end of each buffer.
@@ -28,6 +29,20 @@ pub fn joined(name: &[u8], answer: Answer, out: &[u8]) {
     io::write_all(STDOUT_FILENO, b"\n");
 }
 
+// A check's name, its K and the answer's fields.
+pub fn checked(name: &[u8], k: usize, answer: Answer) {
+    io::write_all(STDOUT_FILENO, name);
+    field(b" k ", k);
+    fields(answer);
+}
+
+// How many states and inputs rows have.
+pub fn sizes(states: usize, inputs: usize) {
+    field(b"states ", states);
+    field(b" inputs ", inputs);
+    io::write_all(STDOUT_FILENO, b"\n");
+}
+
 // A table's bytes as numbers, a record a line.
 pub fn records(bytes: &[u8]) {
     lines(bytes, bytes.len() / 4, 4);
@@ -52,7 +67,9 @@ fn fields(answer: Answer) {
 }
 
 // How many rows a controller has: one for each winner and input.
-fn rows(winners: usize, inputs: usize) -> usize {
+pub fn rows(winners: usize, inputs: usize) -> usize
+    ensures { λ r. ⌜ r ≤ 2048 ⌝ }
+{
     if 256 < winners {
         return 0;
     }

@@ -5,28 +5,13 @@ use meaning::Refusal;
 use meaning::Verdict;
 use table::Table;
 ghost use mathlib.Core.Path.{_≡_};
-ghost use mathlib.Core.Bool.{true};
 ghost use Prim.Native.Nat.{_≤_};
 ghost use lib.ListN.{length};
-ghost use Rattle.meaning.specs.Answers.{refused as refusedBy, solved};
-ghost use Rattle.meaning.specs.Checks.{check};
+ghost use Rattle.meaning.specs.Answers.{solved};
 ghost use Rattle.table.specs.Packed.{tableIn};
 ghost use Rattle.lists.specs.Members.{members};
 ghost use Rattle.writing.specs.Playable.{Playable};
 ghost use Rattle.game.specs.Finished.{finished, Roomy};
-
-// A refusal's answer: rounds, winners and start are 0.
-pub fn refused(refusal: Refusal, place: usize, which: usize) -> Answer
-    ensures { λ r. ⌜ r ≡ refusedBy (check refusal place which true) ⌝ }
-{
-    Answer {
-        verdict: Verdict::Refused(refusal),
-        place,
-        which,
-        rounds: 0,
-        winners: 0,
-    }
-}
 
 // The answer of a settled list, with the winners written, and the rows if the start position wins.
 pub fn finish(
@@ -44,7 +29,7 @@ pub fn finish(
         ≡ finished k (tableIn table) (members (now (list .entry)) n) rounds (now (winners .entry)) (now (controller .entry)) ⌝ }
 {
     if n == 0 {
-        return refused(Refusal::Nothing, 0, 0);
+        return meaning::refused(Refusal::Nothing, 0, 0);
     }
     writing::write_winners(list, n, winners);
     let start = writing::covering(

@@ -26,15 +26,15 @@ pub fn solve(
         ≡ solveOf (now (table .entry)) k room (now (winners .entry)) (now (controller .entry)) ⌝ }
 {
     if 7 < k {
-        return finish::refused(Refusal::Bound, 0, 0);
+        return meaning::refused(Refusal::Bound, 0, 0);
     }
     if small_room(room, winners.len(), controller.len()) {
-        return finish::refused(Refusal::Room, 0, 0);
+        return meaning::refused(Refusal::Room, 0, 0);
     }
     let reading = checks::check(table);
     let checked = reading.checked;
     if let Checked::Fails(refusal, place) = checked {
-        return finish::refused(refusal, place, 0);
+        return meaning::refused(refusal, place, 0);
     }
     let table = reading.table;
     let first = [position::brim(k, table.controllers); 1];

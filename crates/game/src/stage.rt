@@ -33,7 +33,7 @@ pub fn stage(
     let mut list = [[-1i8; 8]; 256];
     let settled = rounds::settle(table, k, room, first, n, &mut list);
     let Settled::After(rounds, number) = settled else {
-        return finish::refused(Refusal::Full, 0, 0);
+        return meaning::refused(Refusal::Full, 0, 0);
     };
     finish::finish(table, k, &list, number, rounds, winners, controller)
 }

@@ -3,7 +3,6 @@
 pub mod beside;
 pub mod stage;
 
-use game::finish;
 use joined::pair;
 use joined::pair::Paired;
 use meaning::Answer;
@@ -18,12 +17,12 @@ pub fn join(first: &[u8], second: &[u8], out: &mut [u8]) -> Answer
     ensures { λ r. ⌜ joinedAs r (now (out .exit)) ≡ joinOf (now (first .entry)) (now (second .entry)) (now (out .entry)) ⌝ }
 {
     if out.len() < 4160 {
-        return finish::refused(Refusal::Room, 0, 0);
+        return meaning::refused(Refusal::Room, 0, 0);
     }
     let read = pair::pair(first, second);
     let paired = read.paired;
     if let Paired::Fails(refusal, place, which) = paired {
-        return finish::refused(refusal, place, which);
+        return meaning::refused(refusal, place, which);
     }
     Answer {
         verdict: Verdict::Realizable(0),
@@ -49,15 +48,15 @@ pub fn parts(
         ≡ partsOf (now (first .entry)) (now (second .entry)) k room (now (winners .entry)) (now (controller .entry)) ⌝ }
 {
     if 7 < k {
-        return finish::refused(Refusal::Bound, 0, 0);
+        return meaning::refused(Refusal::Bound, 0, 0);
     }
     if game::small_room(room, winners.len(), controller.len()) {
-        return finish::refused(Refusal::Room, 0, 0);
+        return meaning::refused(Refusal::Room, 0, 0);
     }
     let tables = pair::pair(first, second);
     let paired = tables.paired;
     if let Paired::Fails(refusal, place, which) = paired {
-        return finish::refused(refusal, place, which);
+        return meaning::refused(refusal, place, which);
     }
     stage::in_turn(tables, first, second, k, room, winners, controller)
 }

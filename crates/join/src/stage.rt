@@ -1,7 +1,6 @@
 // The stages of solving by parts: each table alone, and the joined one from the pairs of their
 // winners.
 use crate::beside;
-use game::finish;
 use game::stage;
 use joined::pair::Readings;
 use meaning::Answer;
@@ -64,17 +63,17 @@ pub fn in_turn(
     let mut ones = [[-1i8; 8]; 256];
     let alone_first = rounds::settle_all(one, k, room, &mut ones);
     let Settled::After(_, an) = alone_first else {
-        return finish::refused(Refusal::Full, 0, 1);
+        return meaning::refused(Refusal::Full, 0, 1);
     };
     let mut twos = [[-1i8; 8]; 256];
     let alone_second = rounds::settle_all(two, k, room, &mut twos);
     let Settled::After(_, bn) = alone_second else {
-        return finish::refused(Refusal::Full, 0, 2);
+        return meaning::refused(Refusal::Full, 0, 2);
     };
     let mut list = [[-1i8; 8]; 256];
     let found = beside::pairs(&ones, an, &twos, bn, one.controllers, &mut list, room);
     let Found::Number(n) = found else {
-        return finish::refused(Refusal::Full, 0, 0);
+        return meaning::refused(Refusal::Full, 0, 0);
     };
     last(read, first, second, k, room, &list, n, winners, controller)
 }

@@ -13,7 +13,7 @@ use Rattle.meaning.specs.declared.Refusal.{Refusal}
 use Rattle.meaning.specs.declared.Refusal.the-variants.{Letters, Size}
 use Rattle.meaning.specs.Records.{Record, recordsOf, at, blank}
 use Rattle.meaning.specs.Table.{tableOf, stated}
-use Rattle.meaning.specs.Checks.{Check, check, judge, tableChecks, otherLetters, tooLarge, pairChecks, wrongLength}
+use Rattle.meaning.specs.Checks.{Check, check, judge, tableChecks, otherLetters, tooLarge, pairChecks, wrongSize}
 use Rattle.meaning.specs.Join.{joinedBytes}
 use Rattle.meaning.proofs.Tests.{neither-right}
 use Rattle.meaning.proofs.Lists.{member-at}
@@ -151,7 +151,7 @@ pub record Joinable (one two : List ℕ) : Type 0 where
   pub short : length (joinedBytes one two) ≤ 4160
 
 pub joinable : (one two : List ℕ) → pairedOf (pairChecks one two) ≡ Passes → Joinable one two
-unfolding wrongLength
+unfolding wrongSize
 joinable one two e =
     let p = none-fails (pairChecks one two) e in
     let new = joinedBytes one two in

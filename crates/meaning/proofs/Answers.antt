@@ -26,15 +26,15 @@ use Rattle.meaning.proofs.Tests.{clash}
 use Rattle.meaning.proofs.Checks.{passes-at, passes-left, passes-right, Judged, judged, refusal-leaves}
 
 -- the verdict where no check fails
-cond-realizable : (b : Bool) (s start : ℕ) → (cond b (Realizable s) Unrealizable ≡ Realizable start) ↔ ((b ≡ true) × (start ≡ s))
+pub cond-realizable : (b : Bool) (s start : ℕ) → (cond b (Realizable s) Unrealizable ≡ Realizable start) ↔ ((b ≡ true) × (start ≡ s))
 cond-realizable true s start = (λ e. (refl, cc), λ p. ap Realizable (sym (p .1)))
 cond-realizable false s start = (λ e. (cc, cc), λ p. absurd (clash false (p .0) refl))
 
-cond-unrealizable : (b : Bool) (s : ℕ) → (cond b (Realizable s) Unrealizable ≡ Unrealizable) ↔ (b ≡ false)
+pub cond-unrealizable : (b : Bool) (s : ℕ) → (cond b (Realizable s) Unrealizable ≡ Unrealizable) ↔ (b ≡ false)
 cond-unrealizable true s = (λ e. cc, λ p. absurd (clash true refl p))
 cond-unrealizable false s = (λ e. refl, λ p. refl)
 
-cond-granted : (b : Bool) (s : ℕ) (r : Refusal) → cond b (Realizable s) Unrealizable ≡ Refused r → ⊥
+pub cond-granted : (b : Bool) (s : ℕ) (r : Refusal) → cond b (Realizable s) Unrealizable ≡ Refused r → ⊥
 cond-granted true s r e = let z : _≡_ {A = ℕ} 0 1 = cc in omega arith
 cond-granted false s r e = let z : _≡_ {A = ℕ} 0 1 = cc in omega arith
 

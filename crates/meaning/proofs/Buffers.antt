@@ -20,7 +20,7 @@ use Rattle.meaning.specs.Rounds.{Set, allSafe, setW, rounds, winning, wi
 use Rattle.meaning.specs.Written.{winners, positionBytes, winnersBytes, startState, Row, rowBytes, controllerRows}
 use Rattle.meaning.specs.Join.{joined, pairs, joinedBytes, joinedTable}
 use Rattle.meaning.specs.Answers.{Solved, unsolved, solvedFrom, solve, join, parts, answered}
-use Rattle.meaning.specs.Checks.{Check, judge, bound, room, roomToJoin, wrongLength, stageChecks, solveChecks}
+use Rattle.meaning.specs.Checks.{Check, judge, bound, room, roomToJoin, wrongSize, stageChecks, solveChecks}
 use Rattle.meaning.specs.Checks.{pairChecks, joinChecks, partsChecks, Passes}
 use Rattle.meaning.proofs.Tests.{neither-left, neither-right, largest-at}
 use Rattle.meaning.proofs.Lists.{tab-length, flatMap-length}
@@ -168,7 +168,7 @@ parts-kept one two K N win con =
 
 -- a joined table passes LENGTH, so it fits
 join-fits : (one two out : List ℕ) → Passes (joinChecks one two out) → length (joinedBytes one two) ≤ length out
-unfolding joinChecks roomToJoin wrongLength
+unfolding joinChecks roomToJoin wrongSize
 join-fits one two out p =
     let new = joinedBytes one two in
     let ragged = eqb (length new) 0 || not (eqb (length new % 4) 0) in

@@ -19,7 +19,7 @@ use Rattle.meaning.specs.Written.{rowBytes}
 use Rattle.meaning.specs.Written.{leadsBack, rowsOfState, rowsFrom, controllerRows}
 use Rattle.meaning.specs.Join.{byKind, upward, renumber, joined, pairs}
 use Rattle.meaning.specs.Answers.{refused, Solved, unsolved, solvedFrom, solve, join, parts, answered}
-use Rattle.meaning.specs.Checks.{bound, room, roomToJoin, wrongLength, descent, misnumbered, noStart, dangling, total, gap}
+use Rattle.meaning.specs.Checks.{bound, room, roomToJoin, wrongSize, descent, misnumbered, noStart, dangling, total, gap}
 use Rattle.meaning.specs.Checks.{tableChecks, stageChecks, solveChecks, otherLetters, tooLarge, pairChecks, joinChecks, partsChecks}
 use Rattle.meaning.specs.Checks.{partsStages}
 
@@ -124,7 +124,7 @@ pub C1-to-C12 : map outcome calls ≡ expected
 unfolding flatMap recordsOf bytesOf limits limit outside ascends same ofKind letters markIn startIn markOf startsOf edgeOf tableOf plus
     forward safe below back startPosition allSafe setA setB setW positions equal rounds winning maximal maximalMembers widthOfRound full
     winners positionBytes winnersBytes covering afterRound leadsBack outputOf startState stateOrder rowBytes rowsOfState rowsFrom
-    controllerRows byKind upward renumber joined pairs refused bound room roomToJoin wrongLength descent misnumbered noStart
+    controllerRows byKind upward renumber joined pairs refused bound room roomToJoin wrongSize descent misnumbered noStart
     dangling total gap tableChecks stageChecks unsolved answered solvedFrom solveChecks solve otherLetters tooLarge pairChecks
     joinChecks join partsStages partsChecks parts outcome
 C1-to-C12 = refl

@@ -1,4 +1,4 @@
--- The codes of document 01 tell verdicts apart, but for a controller's start: so what is proved of a verdict is proved of its code. What
+-- The codes tell verdicts apart, but for a controller's start: so what is proved of a verdict is proved of its code. What
 -- holds of every refusal's number is tested on the list of refusals, in which each is found again by its number; numbers may be left out.
 use mathlib.Core.Path.{_≡_, refl, sym, ap, _∙_, subst}
 use mathlib.Core.Logic.{_↔_}
@@ -14,7 +14,7 @@ use Rattle.meaning.specs.declared.Verdict.the-variants.{Realizable, Unre
 use Rattle.meaning.specs.declared.Refusal.{Refusal}
 use Rattle.meaning.specs.declared.Refusal.the-variants.{Bound, Room, Length, Record as Recorded, Order, States, Start, Edge, Gap}
 use Rattle.meaning.specs.declared.Refusal.the-variants.{Full, Nothing}
-use Rattle.meaning.specs.declared.Refusal.the-variants.{Letters, Size}
+use Rattle.meaning.specs.declared.Refusal.the-variants.{Letters, Size, Rows}
 use Rattle.meaning.specs.Lists.{every, place}
 use Rattle.meaning.specs.Answers.{numberOf, codeOf}
 use Rattle.meaning.proofs.Lists.{every-default}
@@ -22,7 +22,7 @@ use Rattle.meaning.proofs.Lists.{every-default}
 -- the refusals
 refusals : List Refusal
 refusals =
-    Bound ∷ Room ∷ Length ∷ Recorded ∷ Order ∷ States ∷ Start ∷ Edge ∷ Gap ∷ Full ∷ Nothing ∷ Letters ∷ Size ∷ []
+    Bound ∷ Room ∷ Length ∷ Recorded ∷ Order ∷ States ∷ Start ∷ Edge ∷ Gap ∷ Full ∷ Nothing ∷ Letters ∷ Size ∷ Rows ∷ []
 
 -- the one with a number
 numbered : ℕ → Refusal
@@ -44,6 +44,7 @@ again Full = refl
 again Nothing = refl
 again Letters = refl
 again Size = refl
+again Rows = refl
 
 -- so no two have the same number,
 pub number-injective : (r s : Refusal) → numberOf r ≡ numberOf s → r ≡ s

@@ -95,7 +95,7 @@ join-good one two p call room =
     )
 
 -- what it wrote
-wrote-joined : (one two : List ℕ) → Two one two → (call : JoinCall one two) → AcceptedJoin (call .lent)
+pub wrote-joined : (one two : List ℕ) → Two one two → (call : JoinCall one two) → AcceptedJoin (call .lent)
     → wrote (call .left) ≡ joinedBytes one two
 wrote-joined one two p call room = told call (λ j. wrote j ≡ joinedBytes one two) (join-makes one two (call .lent) room p)
 

@@ -13,7 +13,7 @@ use Rattle.meaning.specs.Lists.{some}
 use Rattle.meaning.specs.Records.{Record, bytesOf, blank, at, controller, world, output, input, ofKind}
 use Rattle.meaning.specs.Table.{Half, Table, onOutput, onInput, tableOf}
 use Rattle.meaning.specs.Join.{byKind, renumber, joined, home, away}
-use Rattle.meaning.specs.Checks.{wrongLength, noStart, total, gap}
+use Rattle.meaning.specs.Checks.{wrongSize, noStart, total, gap}
 use Rattle.meaning.proofs.Tests.{each-of, some-at, some-of, below-sum}
 use Rattle.meaning.proofs.Lists.{member-at}
 use Rattle.meaning.proofs.Good.{total-leads, leads-at, leads-of}
@@ -188,8 +188,8 @@ module _ (rs ss : List Record) (pair : Paired rs ss) where
       )
 
   -- 4 LENGTH
-  pub joined-length : wrongLength (bytesOf (joined rs ss)) ≡ false
-  unfolding wrongLength
+  pub joined-length : wrongSize 4160 (bytesOf (joined rs ss)) ≡ false
+  unfolding wrongSize
   joined-length =
       let size = joined-size in
       rw (

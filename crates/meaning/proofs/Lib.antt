@@ -2,6 +2,7 @@
 -- tests and lists
 pub mod Tests
 pub mod Lists
+pub mod Searches
 pub mod Sizes
 pub mod Ascending
 -- steps
@@ -20,6 +21,10 @@ pub mod Lookups
 pub mod Rows
 -- records and checks
 pub mod Records
+pub mod Formed
+pub mod Shape
+pub mod Followed
+pub mod Blocks
 pub mod Checks
 pub mod Codes
 pub mod Answers
@@ -50,6 +55,9 @@ pub mod Full
 pub mod NotFull
 pub mod Afresh
 pub mod Alike
+-- rows from elsewhere, and those that were written here
+pub mod Checked
 -- cases and demands
 pub mod Cases
 pub mod Demands
+pub mod Own

@@ -8,7 +8,7 @@ use mathlib.Core.List.{append-assoc, append-nil, List·Memᴰ·cases-cons, List�
 use Prim.Native.Nat.{ℕ, zero, suc, _+_, _*_, _≤_, _<_, zero-le, suc-le-suc}
 use native.Mathlib.Nat.{le-of-suc-le-suc, not-suc-le-zero, eq-or-lt-of-le, zero-add, suc-add, zero-mul, suc-mul}
 use native.Mathlib.Omega.{arith}
-use lib.ListN.{length, getD, length-append, List·getD-eq-default}
+use lib.ListN.{length, getD, replicate, length-append, List·getD-eq-default}
 use lib.Dec.{ltb}
 use borrow.Author.Tests.{ltb-true, ltb-false}
 use Rattle.meaning.specs.Lists.{tab, keep, every, any, place}
@@ -269,3 +269,9 @@ pub getD-inside : {A : Type 0} (l : List A) (i : ℕ) (d e : A) → i < length l
 getD-inside [] i d e h = absurd (not-suc-le-zero h)
 getD-inside (x ∷ l) zero d e h = refl
 getD-inside (x ∷ l) (suc i) d e h = getD-inside l i d e (le-of-suc-le-suc h)
+
+-- a list of one value has it everywhere
+pub getD-alike : {A : Type 0} (n i : ℕ) (a : A) → getD (replicate n a) i a ≡ a
+getD-alike zero i a = refl
+getD-alike (suc n) zero a = refl
+getD-alike (suc n) (suc i) a = getD-alike n i a

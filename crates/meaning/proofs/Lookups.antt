@@ -85,6 +85,7 @@ noRow = record { state = 0; output = 0; input = 0; next = 0 }
 -- what a row says is so
 pub record Right (K : ℕ) (t : Table) (X : Set) (r : Row) : Type 0 where
   pub of-winner : r .state < length (winners K t X)
+  pub of-input : r .input < t .inputs
   pub outputs : r .output ≡ outputAt K t X (r .state)
   pub leads : r .next ≡ nextAt K t X (r .state) (r .input)
 
@@ -106,7 +107,7 @@ module _ (K : ℕ) (t : Table) (X : Set) where
         let s = member-flatMap (rowsOfState K t (winning K t X) (winners K t X)) (states K t X) r m in
         let i = member-tab (t .inputs) (rowAt K t X (s .0)) r (s .2) in
         rw (i .2)
-        (record { of-winner = order-below _ _ (s .0) covered (s .1); outputs = refl; leads = refl })
+        (record { of-winner = order-below _ _ (s .0) covered (s .1); of-input = i .1; outputs = refl; leads = refl })
 
     pub output-found : (s : ℕ) → s < length (winners K t X) → 0 < t .inputs → rowOutput (controllerRows K t X) s ≡ outputAt K t X s
     unfolding rowOutput

@@ -10,7 +10,7 @@ use native.Mathlib.Decide.{decLt}
 use native.Mathlib.Omega.{arith}
 use lib.ListN.{length, List·getD-eq-default}
 use Rattle.meaning.specs.Records.{Record, blank, at, controller, ofKind}
-use Rattle.meaning.specs.Table.{Table, startIn, startsOf, tableOf, Good}
+use Rattle.meaning.specs.Table.{Table, startIn, startsOf, tableOf, Good, StartsDeclared}
 use Rattle.meaning.specs.Counting.{count, plus, startPosition}
 use Rattle.meaning.specs.Rounds.{Set, winning, FirstSet}
 use Rattle.meaning.specs.Written.{startState}
@@ -22,7 +22,7 @@ use Rattle.meaning.proofs.Steps.{run-within, plus-exact, run-over-edge}
 use Rattle.meaning.proofs.Maximal.{winning-covered, StartCovered}
 
 -- start states are states
-pub start-declared : (rs : List Record) (p : ℕ) → tableOf rs .starts p ≡ true → p < tableOf rs .controllers
+pub start-declared : (rs : List Record) → StartsDeclared (tableOf rs)
 unfolding tableOf startsOf startIn
 start-declared rs p s = go (decLt p (length (ofKind controller rs)))
   where
@@ -44,8 +44,8 @@ start-at K t p l = tab-at (t .controllers) (λ q. cond (t .starts q) (plus K 0 1
 start-plus : (K : ℕ) → plus K 0 1 ≡ 1
 start-plus K = plus-exact K 0 1 (omega arith) (omega arith)
 
-pub start-count : (K : ℕ) (rs : List Record) (p : ℕ) → tableOf rs .starts p ≡ true → count (startPosition K (tableOf rs)) p ≡ 1
-start-count K rs p s = (rw s at (start-at K (tableOf rs) p (start-declared rs p s))) ∙ start-plus K
+start-count : (K : ℕ) (t : Table) (p : ℕ) → p < t .controllers → t .starts p ≡ true → count (startPosition K t) p ≡ 1
+start-count K t p l s = (rw s at (start-at K t p l)) ∙ start-plus K
 
 pub count-start : (K : ℕ) (t : Table) (p : ℕ) → 0 < count (startPosition K t) p
     → (t .starts p ≡ true) × (count (startPosition K t) p ≡ 1)
@@ -59,11 +59,9 @@ pub start-covered : (K : ℕ) (t : Table) (X : Set) → FirstSet K t X → Start
 unfolding startState
 start-covered K t X first = Iff·symm (winning-covered K t X first (startPosition K t) (start-length K t))
 
-pub keeps-realizes : (K : ℕ) (rs : List Record) (σ : Strategy) → Legal (tableOf rs) σ
-    → Keeps K (tableOf rs) (startPosition K (tableOf rs)) σ
-    → Realizes K (tableOf rs) σ
-keeps-realizes K rs σ l k =
-    record { legal = l; keeps = λ p s run. let one = start-count K rs p s in omega (arith, k .whole p (omega arith) run) }
+pub keeps-realizes : (K : ℕ) (t : Table) → StartsDeclared t → (σ : Strategy) → Legal t σ → Keeps K t (startPosition K t) σ → Realizes K t σ
+keeps-realizes K t declared σ l k =
+    record { legal = l; keeps = λ p s run. let one = start-count K t p (declared p s) s in omega (arith, k .whole p (omega arith) run) }
 
 pub realizes-keeps : (K : ℕ) (rs : List Record) → Good (tableOf rs) → (σ : Strategy) → Realizes K (tableOf rs) σ
     → Keeps K (tableOf rs) (startPosition K (tableOf rs)) σ
@@ -80,6 +78,6 @@ realizes-keeps K rs g σ r =
 pub wins-realizable : (K : ℕ) (rs : List Record) → Good (tableOf rs)
     → Wins K (tableOf rs) (startPosition K (tableOf rs)) ↔ Realizable K (tableOf rs)
 wins-realizable K rs g = (
-  λ w. (w .strategy, keeps-realizes K rs (w .strategy) (w .legal) (w .keeps)),
+  λ w. (w .strategy, keeps-realizes K (tableOf rs) (start-declared rs) (w .strategy) (w .legal) (w .keeps)),
   λ r. record { strategy = r .0; legal = r .1 .legal; keeps = realizes-keeps K rs g (r .0) (r .1) },
 )

@@ -1,12 +1,13 @@
--- Laws of records: each takes four bytes, they come back from their bytes, each has one of four kinds, the records of a kind are the
+-- Laws of records: each is made of four bytes in their place, they come back from their bytes, each has one of four kinds, the records of a kind are the
 -- members of that kind, an edge of a table is a record of its list, the number of letters is the least above every letter of a kind, and a
 -- record that is not outside the table of limits has every byte within them.
-use mathlib.Core.Path.{_≡_, refl, ap}
+use mathlib.Core.Path.{_≡_, refl, sym, ap, _∙_}
 use mathlib.Core.Bool.{true, false, _&&_, _||_}
 use mathlib.Core.List.{List, [], _∷_, flatMap, List·Memᴰ, Memᴰ·cast}
-use Prim.Native.Nat.{ℕ, zero, suc, _-_, _*_, _/_, _≤_, _<_, zero-le}
+use Prim.Native.Nat.{ℕ, zero, suc, _+_, _-_, _*_, _/_, _≤_, _<_, zero-le}
+use native.Mathlib.Nat.{not-suc-le-zero}
 use native.Mathlib.Omega.{arith}
-use lib.ListN.{length, getD}
+use lib.ListN.{length, getD, List·getD-eq-default}
 use lib.Dec.{eqb, leb, ltb}
 use borrow.Author.Tests.{eqb-true, eq-eqb, ltb-false, le-ltb, leb-true}
 use Rattle.meaning.specs.Lists.{every}
@@ -49,6 +50,29 @@ kind-bounds _ of-input = omega arith
 -- records of the same four bytes are equal
 pub record-same : (r s : Record) → r .kind ≡ s .kind → r .from ≡ s .from → r .letter ≡ s .letter → r .to ≡ s .to → r ≡ s
 record-same r s k f l t = λ i. record { kind = k i; from = f i; letter = l i; to = t i }
+
+-- the record that starts at a byte
+abbrev pub startingAt : List ℕ → ℕ → Record
+startingAt bytes k =
+    record { kind = getD bytes k 0; from = getD bytes (k + 1) 0; letter = getD bytes (k + 2) 0; to = getD bytes (k + 3) 0 }
+
+pub records-at : (bytes : List ℕ) (i : ℕ) → i < length bytes / 4 → at (recordsOf bytes) i ≡ startingAt bytes (4 * i)
+unfolding recordsOf
+records-at [] i h = absurd (not-suc-le-zero h)
+records-at (a ∷ []) i h = absurd (not-suc-le-zero h)
+records-at (a ∷ b ∷ []) i h = absurd (not-suc-le-zero h)
+records-at (a ∷ b ∷ c ∷ []) i h = absurd (not-suc-le-zero h)
+records-at (a ∷ b ∷ c ∷ d ∷ rest) zero h = refl
+records-at (a ∷ b ∷ c ∷ d ∷ rest) (suc i) h =
+    let later : (k m : ℕ) → m ≡ suc (suc (suc (suc k))) → getD rest k 0 ≡ getD (a ∷ b ∷ c ∷ d ∷ rest) m 0 =
+    λ k m e. ap (λ (n : ℕ). getD (a ∷ b ∷ c ∷ d ∷ rest) n 0) (sym e) in
+    records-at rest i (omega arith)
+    ∙ record-same (startingAt rest (4 * i)) (startingAt (a ∷ b ∷ c ∷ d ∷ rest) (4 * suc i)) (later (4 * i) (4 * suc i) (omega arith))
+    (later (4 * i + 1) (4 * suc i + 1) (omega arith)) (later (4 * i + 2) (4 * suc i + 2) (omega arith))
+    (later (4 * i + 3) (4 * suc i + 3) (omega arith))
+
+pub records-beyond : (bytes : List ℕ) (i : ℕ) → length bytes / 4 ≤ i → at (recordsOf bytes) i ≡ blank
+records-beyond bytes i h = List·getD-eq-default (recordsOf bytes) blank (omega (arith, records-count bytes))
 
 pub same-equal : (r s : Record) → same r s ≡ true → r ≡ s
 unfolding same

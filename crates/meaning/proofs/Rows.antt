@@ -6,23 +6,22 @@ use mathlib.Core.Logic.{⊎-elim}
 use mathlib.Core.Bool.{true}
 use mathlib.Core.List.{List, [], _∷_, flatMap}
 use Prim.Native.Nat.{ℕ, _*_, _<_}
-use native.Mathlib.Nat.{le-trans}
 use native.Mathlib.Omega.{arith}
 use lib.ListN.{length, getD}
 use Rattle.meaning.specs.Records.{recordsOf}
 use Rattle.meaning.specs.Table.{Table, onOutput, onInput, Good}
-use Rattle.meaning.specs.Counting.{Position, count, forward, safe, below}
+use Rattle.meaning.specs.Counting.{Position, forward, safe, below}
 use Rattle.meaning.specs.Rounds.{Set, winning, FirstSet}
 use Rattle.meaning.specs.Written.{winners, covering, afterRound, outputOf, startState, Row, rowBytes, rowsOfState, controllerRows}
 use Rattle.meaning.specs.Written.{leadsBack, rowsFrom, stateOrder}
 use Rattle.meaning.specs.Play.{Legal, Keeps, rowsIn, rowOutput, stateAfter, follow}
 use Rattle.meaning.proofs.Tests.{each-at, each-of, first-holds, first-found}
 use Rattle.meaning.proofs.Lists.{tab-length, member-at, place-holds, flatMap-length}
-use Rattle.meaning.proofs.Steps.{safe-at, safe-of, plus-from-safe, forward-length, forward-brings}
+use Rattle.meaning.proofs.Steps.{forward-length}
 use Rattle.meaning.proofs.Positions.{allSafe-safe}
 use Rattle.meaning.proofs.Rounds.{setA-leads, setB-leads, winning-safe, winning-fixed}
 use Rattle.meaning.proofs.Maximal.{member-in, winning-covered, StartCovered}
-use Rattle.meaning.proofs.Winning.{Guards, guards-keep}
+use Rattle.meaning.proofs.Winning.{half-safe, Guards, guards-keep}
 use Rattle.meaning.proofs.Lookups.{order-length, winnerAt, outputAt, nextAt, output-found, next-found, some-output-found}
 
 -- rows come back from their bytes
@@ -71,18 +70,11 @@ module _ (K : ℕ) (t : Table) (X : Set) (good : Good t) (first : FirstSet K t X
   pub won-safe : (F : Position) → winning K t X F ≡ true → safe K F ≡ true
   won-safe F won = allSafe-safe K (t .controllers) F (winning-safe K t X first F won)
 
-  -- so is the position half way: an overrun there would still be one after the round, whatever the input
+  -- so is the position half way
   pub middle-safe : (F : Position) → winning K t X F ≡ true → safe K (forward K (onOutput t (outputOf K t (winning K t X) F)) F) ≡ true
-  unfolding afterRound
   middle-safe F won =
-      let G = forward K (onOutput t (outputOf K t (winning K t X) F)) F in
-      let after = forward K (onInput t 0) G in
-      let counted = safe-at K after (won-safe after (output-wins F won 0 (good .some-input))) in
-      safe-of K G (λ w l.
-      let declared : w < t .worlds = rw (forward-length K (onOutput t (outputOf K t (winning K t X) F)) F) at l in
-      let r = good .input-leads 0 w (good .some-input) declared in
-      let brought = forward-brings K (onInput t 0) G w (r .0) declared (good .input-ends 0 w (r .0) (r .1) .2) (r .1) in
-      plus-from-safe K (t .controllerMark (r .0)) (count G w) (le-trans brought (counted (r .0))))
+      let o = outputOf K t (winning K t X) F in
+      half-safe K t good o F (won-safe (afterRound K t o 0 F) (output-wins F won 0 (good .some-input)))
 
   -- a winner is in the winning set
   pub winner-wins : (s : ℕ) → s < length (winners K t X) → winning K t X (winnerAt K t X s) ≡ true

@@ -11,7 +11,7 @@ use lib.Dec.{eqb, ltb}
 use borrow.Author.Tests.{eqb-true, ltb-true, not-false}
 use Rattle.meaning.specs.Lists.{Ascending, none, more, before}
 use Rattle.meaning.specs.Records.{Record, recordsOf, bytesOf, at, ascends}
-use Rattle.meaning.specs.Checks.{Passes, wrongLength, tableChecks}
+use Rattle.meaning.specs.Checks.{Passes, wrongSize, tableChecks}
 use Rattle.meaning.proofs.Tests.{ordered-cases, neither-left, neither-right}
 use Rattle.meaning.proofs.Ascending.{before-first, before-rest, before-trans, ascending-equal}
 use Rattle.meaning.proofs.Sound.{passes-length, passes-sound}
@@ -68,7 +68,7 @@ bytes-whole (a ∷ b ∷ c ∷ []) e = absurd (omega arith)
 bytes-whole (a ∷ b ∷ c ∷ d ∷ rest) e = ap {B = List ℕ} (λ l. a ∷ b ∷ c ∷ d ∷ l) (bytes-whole rest (omega arith))
 
 passes-whole : (bytes : List ℕ) → Passes (tableChecks 0 bytes) → bytesOf (recordsOf bytes) ≡ bytes
-unfolding wrongLength
+unfolding wrongSize
 passes-whole bytes p =
     let empty = eqb (length bytes) 0 in
     let ragged = not (eqb (length bytes % 4) 0) in

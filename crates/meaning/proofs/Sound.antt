@@ -13,7 +13,7 @@ use borrow.Author.Tests.{eqb-true, eqb-false, eq-eqb, ne-eqb, leb-false, ltb-tru
 use Rattle.meaning.specs.Lists.{each, first}
 use Rattle.meaning.specs.Records.{Record, recordsOf, blank, at, controller, world, output, input, outside, ascends, ofKind}
 use Rattle.meaning.specs.Table.{onOutput, onInput, letters, edgeOf, tableOf, Good, Small}
-use Rattle.meaning.specs.Checks.{bound, wrongLength, descent, misnumbered, noStart, dangling, gap, tableChecks, otherLetters}
+use Rattle.meaning.specs.Checks.{bound, wrongSize, descent, misnumbered, noStart, dangling, gap, tableChecks, otherLetters}
 use Rattle.meaning.specs.Checks.{tooLarge, pairChecks, Passes}
 use Rattle.meaning.proofs.Tests.{neither-left, neither-right, clash, refuted, each-at, each-of, first-holds, first-before}
 use Rattle.meaning.proofs.Lists.{member-at, no-place, placeless}
@@ -87,7 +87,7 @@ pub record Sound (rs : List Record) : Type 0 where
   pub declared : (r : Record) → List·Memᴰ r rs → dangling (tableOf rs) r ≡ false
   pub leads : gap (tableOf rs) ≡ false
 
-pub passes-length : (which : ℕ) (bytes : List ℕ) → Passes (tableChecks which bytes) → wrongLength bytes ≡ false
+pub passes-length : (which : ℕ) (bytes : List ℕ) → Passes (tableChecks which bytes) → wrongSize 4160 bytes ≡ false
 unfolding tableChecks
 passes-length which bytes p = passes-at (tableChecks which bytes) p 0 (bound 0) (lit< tt)
 
@@ -108,7 +108,7 @@ passes-sound which bytes p =
       leads = check 6 (bound 0) (lit< tt);
     }
 
-pub sound-passes : (which : ℕ) (bytes : List ℕ) → wrongLength bytes ≡ false → Sound (recordsOf bytes) → Passes (tableChecks which bytes)
+pub sound-passes : (which : ℕ) (bytes : List ℕ) → wrongSize 4160 bytes ≡ false → Sound (recordsOf bytes) → Passes (tableChecks which bytes)
 unfolding tableChecks
 sound-passes which bytes size s =
     let rs = recordsOf bytes in

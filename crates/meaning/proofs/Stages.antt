@@ -7,7 +7,8 @@ use mathlib.Core.Bool.{true}
 use mathlib.Core.List.{List, []}
 use Prim.Native.Nat.{ℕ, _*_, _≤_, _<_}
 use native.Mathlib.Omega.{arith}
-use lib.ListN.{length, getD, take}
+use lib.ListN.{length, getD, take, drop}
+use lib.Seq.{take-at}
 use borrow.Author.Tests.{lt-ltb}
 use Rattle.meaning.specs.Lists.{written}
 use Rattle.meaning.specs.Records.{Record, recordsOf}
@@ -23,14 +24,15 @@ use Rattle.meaning.proofs.Lists.{place-holds, place-found}
 use Rattle.meaning.proofs.Rounds.{allSafe-first, rounds-settled, rounds-smallest, rounds-bound}
 use Rattle.meaning.proofs.Maximal.{winning-covered, StartCovered}
 use Rattle.meaning.proofs.Winning.{keeps-down, winning-wins}
-use Rattle.meaning.proofs.Realizes.{start-length, start-covered, keeps-realizes, wins-realizable}
+use Rattle.meaning.proofs.Realizes.{start-declared, start-length, start-covered, keeps-realizes, wins-realizable}
 use Rattle.meaning.proofs.Rows.{rows-number, rows-legal, rows-keep}
 use Rattle.meaning.proofs.Checks.{first-failure}
 use Rattle.meaning.proofs.Codes.{code-refused, code-realizable, code-unrealizable}
 use Rattle.meaning.proofs.Answers.{verdictOf, Answered, solve-passes, parts-passes}
 use Rattle.meaning.proofs.Sound.{Sound, passes-sound, sound-good, sound-small, Paired, passes-paired}
+use Rattle.meaning.proofs.Buffers.{rows-bytes}
 use Rattle.meaning.proofs.Readings.{winner-read, rows-read}
-use Rattle.meaning.specs.Calls.{winnerIn, Unrefused, code, Covers, controllerOf}
+use Rattle.meaning.specs.Calls.{winnerIn, Unrefused, code, Covers, controllerWritten, controllerOf}
 use Rattle.meaning.specs.Demands.{Refuses, Solves}
 use Rattle.meaning.proofs.Parts.{pairs-first, pairs-winning}
 use Rattle.meaning.proofs.JoinUnion.{paired-union}
@@ -113,7 +115,7 @@ module _ (K : ℕ) (rs : List Record) (X : Set) (stage : Stage K rs X) where
       let ws = winners K t X in
       let s = startState K t ws in
       let σ = follow (controllerRows K t X) s in
-      keeps-realizes K rs σ (rows-legal K t X (stage .good) (stage .first) h s)
+      keeps-realizes K t (start-declared rs) σ (rows-legal K t X (stage .good) (stage .first) h s)
       (keeps-down K t (startPosition K t) (getD ws s []) σ (place-holds (below (startPosition K t)) ws [] h)
       (rows-keep K t X (stage .good) (stage .first) h s h))
 
@@ -148,7 +150,7 @@ module _ {cs : List Check} {K : ℕ} {rs : List Record} {X : Set} {win con : Lis
       (first-failure cs)
 
   -- code 0: no check failed, and the start position is covered
-  code-covered : codeOf (verdictOf s) ≡ 0 → Passes cs × StartCovered K (tableOf rs) X
+  pub code-covered : codeOf (verdictOf s) ≡ 0 → Passes cs × StartCovered K (tableOf rs) X
   code-covered e =
       let r = code-realizable (verdictOf s) .0 e in
       let c = told .realizable-exactly (r .0) .0 (r .1) in
@@ -171,6 +173,18 @@ module _ {cs : List Check} {K : ℕ} {rs : List Record} {X : Set} {win con : Lis
             let over : StartCovered K (tableOf rs) X → ⊥ = λ l. none (covered .0 l) in
             told .unrealizable-exactly .1 (p, omega arith),
       )
+
+  -- the bytes of the controller written are those of the rows
+  pub controller-rows : code (s .answer) ≡ 0 → controllerWritten (tableOf rs) s ≡ rowBytes (controllerRows K (tableOf rs) X)
+  unfolding solvedFrom answered controllerRows
+  controller-rows e =
+      let c = code-covered e in
+      let t = tableOf rs in
+      let ws = winners K t X in
+      let rows = controllerRows K t X in
+      rw (told .judged .grants (c .0), lt-ltb (startState K t ws) (length ws) (c .1))
+      (take-at (rowBytes rows) (drop (length (rowBytes rows)) con) (length ws * t .inputs * 4)
+      (rows-bytes rows ∙ ap (λ (n : ℕ). n * 4) (rows-number K t X (c .1))))
 
   pub controller-realizes : code (s .answer) ≡ 0 → Realizes K (tableOf rs) (controllerOf (tableOf rs) s)
   unfolding solvedFrom answered controllerRows

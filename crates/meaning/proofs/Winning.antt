@@ -7,6 +7,7 @@ use mathlib.Core.Logic.{_↔_}
 use mathlib.Core.Bool.{Bool, true}
 use mathlib.Core.List.{List, [], _∷_, _++_}
 use Prim.Native.Nat.{ℕ, zero, suc, _+_, _-_, _≤_, _<_, min}
+use native.Mathlib.Nat.{le-trans}
 use native.Mathlib.Omega.{arith}
 use lib.ListN.{length}
 use Rattle.meaning.specs.Lists.{first}
@@ -17,7 +18,8 @@ use Rattle.meaning.specs.Written.{afterRound}
 use Rattle.meaning.specs.Play.{Strategy, Run, Keeps, Wins}
 use Rattle.meaning.specs.Play.Run.{here, round}
 use Rattle.meaning.proofs.Tests.{first-holds, first-found}
-use Rattle.meaning.proofs.Steps.{below-at, below-refl, safe-at, safe-where, safe-down, forward-length, forward-from, forward-spends}
+use Rattle.meaning.proofs.Steps.{below-at, below-refl, safe-at, safe-of, safe-where, safe-down, plus-from-safe, forward-length}
+use Rattle.meaning.proofs.Steps.{forward-brings, forward-from, forward-spends}
 use Rattle.meaning.proofs.Positions.{allSafe-safe, allSafe-of}
 use Rattle.meaning.proofs.Rounds.{setA-of, setA-safe, setA-leads, setB-of, setB-safe, setB-leads, allSafe-first}
 use Rattle.meaning.proofs.Rounds.{winning-fixed}
@@ -29,6 +31,18 @@ keeps-down K t F G σ b k =
       whole = λ p c run. omega (arith, below-at F G b p, k .whole p (omega (arith, below-at F G b p)) run);
       half = λ p c run w out. omega (arith, below-at F G b p, k .half p (omega (arith, below-at F G b p)) run w out);
     }
+
+-- where a position after a round is safe, so is the one half way: an overrun there would still be one after the round, whatever the input
+pub half-safe : (K : ℕ) (t : Table) → Good t → (o : ℕ) (F : Position) → safe K (afterRound K t o 0 F) ≡ true
+    → safe K (forward K (onOutput t o) F) ≡ true
+unfolding afterRound
+half-safe K t good o F safely =
+    let G = forward K (onOutput t o) F in
+    safe-of K G (λ w l.
+    let declared : w < t .worlds = rw (forward-length K (onOutput t o) F) at l in
+    let r = good .input-leads 0 w (good .some-input) declared in
+    let brought = forward-brings K (onInput t 0) G w (r .0) declared (good .input-ends 0 w (r .0) (r .1) .2) (r .1) in
+    plus-from-safe K (t .controllerMark (r .0)) (count G w) (le-trans brought (safe-at K (forward K (onInput t 0) G) safely (r .0))))
 
 -- Into the set
 

@@ -10,7 +10,7 @@ use Rattle.meaning.specs.declared.Verdict.{Verdict}
 use Rattle.meaning.specs.declared.Verdict.the-variants.{Realizable, Unrealizable, Refused}
 use Rattle.meaning.specs.declared.Refusal.{Refusal}
 use Rattle.meaning.specs.declared.Refusal.the-variants.{Bound, Room, Length, Record as Recorded, Order, States, Start, Edge, Gap}
-use Rattle.meaning.specs.declared.Refusal.the-variants.{Full, Nothing, Letters, Size}
+use Rattle.meaning.specs.declared.Refusal.the-variants.{Full, Nothing, Letters, Size, Rows}
 use Rattle.meaning.specs.Lists.{written}
 use Rattle.meaning.specs.Table.{Table, stated}
 use Rattle.meaning.specs.Counting.{Position}
@@ -19,7 +19,7 @@ use Rattle.meaning.specs.Written.{winners, winnersBytes, startState, row
 use Rattle.meaning.specs.Join.{joinedTable, joinedBytes, pairs}
 use Rattle.meaning.specs.Checks.{Check, judge, stageChecks, solveChecks, joinChecks, partsChecks}
 
--- the table's column "Code": 2 to 14 for the refusals
+-- the table's column "Code": 2 to 14 for the refusals, and 15 of document 02
 abbrev pub numberOf : Refusal → ℕ
 numberOf Bound = 2
 numberOf Room = 3
@@ -34,6 +34,7 @@ numberOf Full = 11
 numberOf Nothing = 12
 numberOf Letters = 13
 numberOf Size = 14
+numberOf Rows = 15
 
 -- the code: 0 for REALIZABLE, 1 for UNREALIZABLE, else the refusal's own number
 abbrev pub codeOf : Verdict → ℕ

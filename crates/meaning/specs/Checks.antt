@@ -56,9 +56,9 @@ room N win con = check Room 0 0 (eqb N 0 || ltb 256 N || ltb (length win) (8 * N
 unfoldable pub roomToJoin : List ℕ → Check
 roomToJoin out = check Room 0 0 (ltb (length out) 4160)
 
--- 4 LENGTH: "table of 0 bytes, not a multiple of 4, or over 4,160"
-unfoldable pub wrongLength : List ℕ → Bool
-wrongLength bytes = eqb (length bytes) 0 || not (eqb (length bytes % 4) 0) || ltb 4160 (length bytes)
+-- records of "0 bytes, not a multiple of 4, or over" so many
+unfoldable pub wrongSize : ℕ → List ℕ → Bool
+wrongSize most bytes = eqb (length bytes) 0 || not (eqb (length bytes % 4) 0) || ltb most (length bytes)
 
 -- 6 ORDER, "the later of the first bad pair": the first record that does not ascend from the one before it, or the length
 unfoldable pub descent : List Record → ℕ
@@ -88,8 +88,8 @@ gap t =
     || not (each (t .outputs) (λ o. total (onOutput t o)))
     || not (each (t .inputs) (λ i. total (onInput t i)))
 
--- "4 to 10", "over the whole table" each. "Place is the record number, from 0, for 5 and 9 (the first bad one) and 6 (the later of the
--- first bad pair); otherwise 0."
+-- 4 LENGTH: "table of 0 bytes, not a multiple of 4, or over 4,160". "4 to 10", "over the whole table" each. "Place is the record number,
+-- from 0, for 5 and 9 (the first bad one) and 6 (the later of the first bad pair); otherwise 0."
 unfoldable pub tableChecks : ℕ → List ℕ → List Check
 tableChecks which bytes =
     let rs = recordsOf bytes in
@@ -97,7 +97,7 @@ tableChecks which bytes =
     let bad = place outside rs in
     let late = descent rs in
     let stray = place (dangling t) rs in
-    check Length 0 which (wrongLength bytes)
+    check Length 0 which (wrongSize 4160 bytes)
     ∷ check Recorded bad which (ltb bad (length rs))
     ∷ check Order late which (ltb late (length rs))
     ∷ check States 0 which (misnumbered (ofKind controller rs) || misnumbered (ofKind world rs))

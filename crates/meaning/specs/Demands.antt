@@ -1,5 +1,5 @@
--- Demands 1 and 2 of document 00, a sentence a field: what is asked of every call, and of every call that solves. proofs/Demands.antt shows
--- that the calls do so, and demand 3.
+-- Demands 1 and 2 of document 00, a sentence a field: what is asked of every call, and of every call that solves; and R-1 of document 02.
+-- proofs/Demands.antt shows that the calls do so, and demand 3; proofs/Checked.antt R-1.
 use mathlib.Core.Path.{_≡_}
 use mathlib.Core.Logic.{_↔_, _⊎_}
 use mathlib.Core.List.{List}
@@ -11,10 +11,11 @@ use Rattle.meaning.specs.Table.{Table, stated}
 use Rattle.meaning.specs.Counting.{Position}
 use Rattle.meaning.specs.Rounds.{Set, allSafe, maximalMembers, SmallestRepeat, Overfull}
 use Rattle.meaning.specs.Join.{joinedTable, pairs}
-use Rattle.meaning.specs.Checks.{Check, Fails, FailsWith}
-use Rattle.meaning.specs.Answers.{numberOf, refused, Solved}
+use Rattle.meaning.specs.Checks.{Check, Passes, Fails, FailsWith}
+use Rattle.meaning.specs.Answers.{numberOf, startOf, refused, Solved}
 use Rattle.meaning.specs.Play.{Wins, Realizes, Realizable}
-use Rattle.meaning.specs.Calls.{code, Covers, controllerOf}
+use Rattle.meaning.specs.Controller.{checkChecks, followed}
+use Rattle.meaning.specs.Calls.{code, Unrefused, Covers, controllerOf}
 
 -- 1, of a call with these checks and this answer; Untouched says that its result buffers are as they were
 pub record Refuses (cs : List Check) (answer : Answer) (Untouched : Type 0) : Type 0 where
@@ -49,3 +50,11 @@ PartsFull one two K N =
     let both = joinedTable one two in
     let X = pairs K (stated one) (stated two) in
     (TableFull one K N ⊎ TableFull two K N) ⊎ ((N < length (maximalMembers K (both .controllers) X)) ⊎ Overfull K both X N)
+
+-- Document 02, R-1, of a call that checks rows: 0 and 1 exactly where no check fails and following the rows keeps every run to K, or
+-- doesn't; and then all other fields are 0
+pub record Judges (bytes : List ℕ) (K : ℕ) (rows : List ℕ) (answer : Answer) : Type 0 where
+  pub right-exactly : (code answer ≡ 0) ↔ (Passes (checkChecks bytes K rows) × Realizes K (stated bytes) (followed rows))
+  pub wrong-exactly : (code answer ≡ 1) ↔ (Passes (checkChecks bytes K rows) × (Realizes K (stated bytes) (followed rows) → ⊥))
+  pub others-zero : Unrefused answer
+      → (answer .place ≡ 0) × (answer .which ≡ 0) × (answer .rounds ≡ 0) × (answer .winners ≡ 0) × (startOf (answer .verdict) ≡ 0)

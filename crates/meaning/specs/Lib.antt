@@ -10,5 +10,6 @@ pub mod Join
 pub mod Checks
 pub mod Answers
 pub mod Play
+pub mod Controller
 pub mod Calls
 pub mod Demands

@@ -89,6 +89,10 @@ pub record Small (t : Table) : Type 0 where
   pub controllers : t .controllers ≤ 8
   pub worlds : t .worlds ≤ 8
 
+-- its start states are states
+abbrev pub StartsDeclared : Table → Type 0
+StartsDeclared t = (p : ℕ) → t .starts p ≡ true → p < t .controllers
+
 -- "The targets of one state on one letter are kept as eight bits": bit q of a mask
 unfoldable pub bit : ℕ → ℕ → Bool
 bit mask q = ltb q 8 && eqb (mask / 2 ^ q % 2) 1

@@ -1,6 +1,8 @@
-// The types that every call answers with, and document 01's number for each of their cases.
+// The types that every call answers with, and the documents' number for each of their cases.
 ghost use mathlib.Core.Path.{_≡_};
-ghost use Rattle.meaning.specs.Answers.{numberOf, codeOf, startOf};
+ghost use mathlib.Core.Bool.{true};
+ghost use Rattle.meaning.specs.Checks.{check};
+ghost use Rattle.meaning.specs.Answers.{numberOf, codeOf, startOf, refused as refusedBy};
 
 // "Every answer carries a code, a place, which .., rounds, number of winners, start. The verdict
 // holds the controller's start, unrealizable, or the refusal's own case"
@@ -18,7 +20,7 @@ pub enum Verdict {
     Refused(Refusal),
 }
 
-// The numbered reasons, 2 to 14, in their order.
+// The numbered reasons, from 2 on, in the order of their numbers.
 pub enum Refusal {
     Bound,
     Room,
@@ -33,9 +35,10 @@ pub enum Refusal {
     Nothing,
     Letters,
     Size,
+    Rows,
 }
 
-// The number of a refusal in document 01's table.
+// The number of a refusal in the documents' table.
 pub fn number(refusal: Refusal) -> usize
     ensures { λ r. ⌜ r ≡ numberOf refusal ⌝ }
 {
@@ -53,6 +56,7 @@ pub fn number(refusal: Refusal) -> usize
         Refusal::Nothing => 12,
         Refusal::Letters => 13,
         Refusal::Size => 14,
+        Refusal::Rows => 15,
     }
 }
 
@@ -75,5 +79,18 @@ pub fn start(verdict: Verdict) -> usize
         Verdict::Realizable(at) => at,
         Verdict::Unrealizable => 0,
         Verdict::Refused(_) => 0,
+    }
+}
+
+// A refusal's answer: rounds, winners and start are 0.
+pub fn refused(refusal: Refusal, place: usize, which: usize) -> Answer
+    ensures { λ r. ⌜ r ≡ refusedBy (check refusal place which true) ⌝ }
+{
+    Answer {
+        verdict: Verdict::Refused(refusal),
+        place,
+        which,
+        rounds: 0,
+        winners: 0,
     }
 }

@@ -1,5 +1,4 @@
 -- The laws that belong to no one function, each after those it cites.
-pub mod Searches
 pub mod Records
 pub mod OneMore
 pub mod Edges

@@ -1,43 +1,19 @@
--- The records of bytes: which bytes record number i is made of, what a search through them has found when it ends, and
--- the first i of them with the next. By induction on the bytes, four at a time. Assumes nothing.
-use mathlib.Core.Path.{_≡_, refl, sym, ap, _∙_}
+-- The records of bytes: what a search through them has found when it ends, and the first i of them with the next. By the laws of searches
+-- and of lists. Assumes nothing.
+use mathlib.Core.Path.{_≡_, sym, ap, _∙_}
 use mathlib.Core.Bool.{Bool, true, false, not}
 use mathlib.Core.List.{List, [], _∷_, _++_}
-use Prim.Native.Nat.{ℕ, zero, suc, _+_, _*_, _/_, _-_, _≤_, _<_}
-use native.Mathlib.Nat.{not-suc-le-zero}
+use Prim.Native.Nat.{ℕ, suc, _+_, _/_, _-_, _≤_, _<_}
 use native.Mathlib.Numerals.{add-one}
 use native.Mathlib.Omega.{arith}
-use lib.ListN.{length, getD, take, List·getD-eq-default}
+use lib.ListN.{length, take}
 use lib.Seq.{take-all, take-suc}
 use Rattle.meaning.specs.Lists.{place}
 use Rattle.meaning.specs.Records.{Record, recordsOf, at, blank, ascends}
 use Rattle.meaning.specs.Checks.{descent}
 use Rattle.meaning.proofs.Tests.{first-is}
-use Rattle.meaning.proofs.Records.{record-same, records-count}
-use Rattle.table.proofs.Searches.{first-none, place-is, place-none}
-
--- the record that starts at a byte
-abbrev pub startingAt : List ℕ → ℕ → Record
-startingAt bytes k =
-    record { kind = getD bytes k 0; from = getD bytes (k + 1) 0; letter = getD bytes (k + 2) 0; to = getD bytes (k + 3) 0 }
-
-pub records-at : (bytes : List ℕ) (i : ℕ) → i < length bytes / 4 → at (recordsOf bytes) i ≡ startingAt bytes (4 * i)
-unfolding recordsOf
-records-at [] i h = absurd (not-suc-le-zero h)
-records-at (a ∷ []) i h = absurd (not-suc-le-zero h)
-records-at (a ∷ b ∷ []) i h = absurd (not-suc-le-zero h)
-records-at (a ∷ b ∷ c ∷ []) i h = absurd (not-suc-le-zero h)
-records-at (a ∷ b ∷ c ∷ d ∷ rest) zero h = refl
-records-at (a ∷ b ∷ c ∷ d ∷ rest) (suc i) h =
-    let later : (k m : ℕ) → m ≡ suc (suc (suc (suc k))) → getD rest k 0 ≡ getD (a ∷ b ∷ c ∷ d ∷ rest) m 0 =
-    λ k m e. ap (λ (n : ℕ). getD (a ∷ b ∷ c ∷ d ∷ rest) n 0) (sym e) in
-    records-at rest i (omega arith)
-    ∙ record-same (startingAt rest (4 * i)) (startingAt (a ∷ b ∷ c ∷ d ∷ rest) (4 * suc i)) (later (4 * i) (4 * suc i) (omega arith))
-    (later (4 * i + 1) (4 * suc i + 1) (omega arith)) (later (4 * i + 2) (4 * suc i + 2) (omega arith))
-    (later (4 * i + 3) (4 * suc i + 3) (omega arith))
-
-pub records-beyond : (bytes : List ℕ) (i : ℕ) → length bytes / 4 ≤ i → at (recordsOf bytes) i ≡ blank
-records-beyond bytes i h = List·getD-eq-default (recordsOf bytes) blank (omega (arith, records-count bytes))
+use Rattle.meaning.proofs.Records.{records-count}
+use Rattle.meaning.proofs.Searches.{first-none, place-is, place-none}
 
 -- the place of the first record of which a test holds: a search that has come to it, and one that has come to the end
 module _ (f : Record → Bool) (bytes : List ℕ) (i : ℕ) (none : (j : ℕ) → j < i → f (at (recordsOf bytes) j) ≡ false) where

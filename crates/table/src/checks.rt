@@ -11,7 +11,7 @@ ghost use mathlib.Core.List.{[]};
 ghost use Rattle.meaning.specs.Lists.{place, each};
 ghost use Rattle.meaning.specs.Records.{recordsOf, ofKind, outside};
 ghost use Rattle.meaning.specs.Table.{tableOf};
-ghost use Rattle.meaning.specs.Checks.{wrongLength, descent, misnumbered as notNumbered, noStart, dangling as danglingEdge, gap as gapOf};
+ghost use Rattle.meaning.specs.Checks.{wrongSize, descent, misnumbered as notNumbered, noStart, dangling as danglingEdge, gap as gapOf};
 ghost use Rattle.table.specs.Packed.{recordIn, tableIn, packed, hasEdge};
 ghost use Rattle.table.specs.declared.Checked.the-variants.{Fails};
 ghost use Rattle.table.specs.Checked.{reading, readingOf};
@@ -80,7 +80,7 @@ fn refused(refusal: Refusal, place: usize) -> Reading
 
 // 4: a table of 0 bytes, not a multiple of 4, or over 4,160.
 fn wrong_length(bytes: &[u8]) -> bool
-    ensures { λ r. ⌜ r ≡ wrongLength (now (bytes .entry)) ⌝ }
+    ensures { λ r. ⌜ r ≡ wrongSize 4160 (now (bytes .entry)) ⌝ }
 {
     if bytes.len() == 0 {
         return true;

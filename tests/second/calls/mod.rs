@@ -1,5 +1,6 @@
 //! The registry: every call that is compared, one file each.
 
+pub mod check;
 pub mod join;
 mod lies;
 pub mod parts;
@@ -9,4 +10,4 @@ pub mod two;
 
 use crate::call::Operation;
 
-pub const ALL: [&Operation; 3] = [&solve::SOLVE, &join::JOIN, &parts::PARTS];
+pub const ALL: [&Operation; 4] = [&solve::SOLVE, &join::JOIN, &parts::PARTS, &check::CHECK];

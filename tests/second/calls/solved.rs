@@ -171,19 +171,26 @@ fn is_large(table: &Table) -> bool {
     [&table.controller, &table.world].iter().all(|side| side.states == 8 && side.letters == 8)
 }
 
+/// What a table of a call has.
+pub fn of_table(table: &Table, patience: u32) -> Vec<Feature> {
+    let named = [
+        (patience > 0 && patience < 8, "K over 0"),
+        (table.starts.count_ones() > 1, "several starts"),
+        (several_edges(table), "several edges for a letter"),
+        (is_large(table), "8 states and 8 letters"),
+    ];
+    named.into_iter().filter(|(holds, _)| *holds).map(|(_, feature)| feature).collect()
+}
+
 /// What the last table of a call and its outcome have.
 pub fn features(call: &Call, table: Option<Table>, outcome: &Outcome) -> Vec<Feature> {
-    let mut found = Vec::new();
-    let Some(table) = table else { return found };
+    let Some(table) = table else { return Vec::new() };
+    let mut found = of_table(&table, patience(call));
     let mut note = |holds: bool, feature: Feature| {
         if holds {
             found.push(feature);
         }
     };
-    note(patience(call) > 0 && patience(call) < 8, "K over 0");
-    note(table.starts.count_ones() > 1, "several starts");
-    note(several_edges(&table), "several edges for a letter");
-    note(is_large(&table), "8 states and 8 letters");
     let [winners, _] = written(call, &table, outcome);
     note(winners.len() > 8, "several winners");
     note(winners.iter().any(|byte| *byte > 0), "winners beyond the bottom one");

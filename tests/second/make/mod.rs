@@ -1,18 +1,27 @@
-//! Random tables. Those without a plan hardly ever need a K over 0 or a second controller state,
-//! so most good tables here have one: requests that must be served in turn, or ranks that runs
-//! fall through. Noise is added to half of them.
+//! Random tables, and rows for them. Tables without a plan hardly ever need a K over 0 or a second
+//! controller state, so most good ones here have one: requests that must be served in turn, or ranks that
+//! runs fall through. Noise is added to half of them. Rows are strategies with memory, or have one clause
+//! broken.
 
 mod damage;
 mod dense;
 mod dice;
 mod draft;
+mod falling;
 mod loose;
+mod misshapen;
 mod ranked;
 mod requests;
+mod strategies;
+mod winding;
 
 pub use damage::{damaged, two_faults};
 pub use dense::{dense, two_sparse};
 pub use dice::Dice;
+pub use falling::falling;
+pub use misshapen::BREAKS;
+pub use strategies::{bent, copied, foreign, strategy, strategy_of};
+pub use winding::{overwound_rows, winding_rows, winding_table, MOST_ENTRIES};
 
 use crate::rules::record::{records, Record};
 use loose::without_plan;

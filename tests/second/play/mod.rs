@@ -3,6 +3,7 @@
 //! and what they don't allow is lost.
 
 pub mod controller;
+pub mod elsewhere;
 pub mod rows;
 pub mod runs;
 pub mod winners;
@@ -34,6 +35,10 @@ pub struct Explored {
     pub lost_starts: u64,
     /// Tables of which every position was tried.
     pub whole: u64,
+    /// Rows from elsewhere that were played to the end, every run kept to K.
+    pub kept: u64,
+    /// Rows from elsewhere that were played until a run passed K.
+    pub overrun: u64,
     /// Plays that were broken off as too long.
     pub broken_off: u64,
 }

@@ -1,4 +1,4 @@
-//! The numbered answers of document 01.
+//! The numbered answers of document 01, and those that document 02 adds.
 
 pub const REALIZABLE: u32 = 0;
 pub const UNREALIZABLE: u32 = 1;
@@ -15,9 +15,10 @@ pub const FULL: u32 = 11;
 pub const NOTHING: u32 = 12;
 pub const LETTERS: u32 = 13;
 pub const SIZE: u32 = 14;
+pub const ROWS: u32 = 15;
 
 /// The name of each code, at its number.
-pub const NAMES: [&str; 15] = [
+pub const NAMES: [&str; 16] = [
     "REALIZABLE",
     "UNREALIZABLE",
     "BOUND",
@@ -33,6 +34,7 @@ pub const NAMES: [&str; 15] = [
     "NOTHING",
     "LETTERS",
     "SIZE",
+    "ROWS",
 ];
 
 /// A code by its name, and a number that is none as it is.

@@ -1,8 +1,9 @@
-//! What document 01 says of records, marks, starts, joins and answers; nothing here solves anything.
+//! What the documents say of records, marks, starts, joins, rows and answers; nothing here solves anything.
 
 pub mod answer;
 pub mod codes;
 pub mod join;
 pub mod read;
 pub mod record;
+pub mod rows;
 pub mod table;

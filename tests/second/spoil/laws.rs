@@ -50,7 +50,7 @@ fn turn_rounds(call: &Call, outcome: &mut Outcome) {
 }
 
 /// The law, what it is told otherwise, and of which call.
-const TOLD: [(&str, &str, &str, Way); 11] = [
+const TOLD: [(&str, &str, &str, Way); 15] = [
     ("by parts and afresh", "the verdict", "solve", turn_verdict),
     ("by parts and afresh", "a winner", "parts", bend_winner),
     ("by parts and afresh", "a row", "parts", bend_row),
@@ -62,6 +62,10 @@ const TOLD: [(&str, &str, &str, Way); 11] = [
     ("swapped", "a winner", "parts", bend_winner),
     ("with itself", "the verdict", "solve", turn_verdict),
     ("with itself", "the verdict", "parts", turn_verdict),
+    ("kept", "a row", "solve", bend_row),
+    ("kept", "a row", "parts", bend_row),
+    ("kept", "the verdict", "check", turn_verdict),
+    ("halves", "the verdict", "check", turn_verdict),
 ];
 
 impl Control {

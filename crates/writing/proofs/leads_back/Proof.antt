@@ -11,7 +11,7 @@ use Rattle.meaning.specs.Written.{afterRound, leadsBack}
 use Rattle.meaning.specs.Counting.{covered}
 use Rattle.counts.specs.Cells.{cells}
 use Rattle.table.specs.Packed.{tableIn}
-use Rattle.table.proofs.Searches.{each-more, each-fails}
+use Rattle.meaning.proofs.Searches.{each-more, each-fails}
 use Rattle.lists.specs.Members.{members}
 use Rattle.writing.proofs.Stepped.{covered-stepped}
 use Rattle.writing.proofs.leads_back.Statement.{statement}

@@ -11,7 +11,7 @@ use Rattle.meaning.specs.Counting.{covered}
 use Rattle.meaning.proofs.Tests.{first-is}
 use Rattle.counts.specs.Cells.{cells}
 use Rattle.table.specs.Packed.{tableIn}
-use Rattle.table.proofs.Searches.{first-none}
+use Rattle.meaning.proofs.Searches.{first-none}
 use Rattle.lists.specs.Members.{members}
 use Rattle.writing.proofs.output_of.Statement.{statement}
 use Rattle.writing.proofs.output_of.Tie as tie

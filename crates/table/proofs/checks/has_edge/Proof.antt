@@ -8,7 +8,7 @@ use lib.ListN.{getD}
 use Rattle.meaning.specs.Table.{bit}
 use Rattle.meaning.proofs.Tests.{some-same}
 use Rattle.table.specs.Packed.{edgeIn}
-use Rattle.table.proofs.Searches.{some-none}
+use Rattle.meaning.proofs.Searches.{some-none}
 use Rattle.table.proofs.Unpacked.{no-ninth-state, no-ninth-letter}
 use Rattle.table.proofs.checks.has_edge.Statement.{statement}
 use Rattle.table.proofs.checks.has_edge.Tie as tie

@@ -8,7 +8,7 @@ use borrow.Author.Needs.{needs}
 use borrow.Author.Tests.{not-true, not-false}
 use Rattle.meaning.specs.Lists.{each}
 use Rattle.table.specs.Packed.{hasEdge}
-use Rattle.table.proofs.Searches.{each-more, each-fails}
+use Rattle.meaning.proofs.Searches.{each-more, each-fails}
 use Rattle.table.proofs.checks.total.Statement.{statement}
 use Rattle.table.proofs.checks.total.Tie as tie
 

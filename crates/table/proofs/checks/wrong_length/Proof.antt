@@ -1,19 +1,19 @@
 -- `wrong_length` is its three tests in turn. Assumes nothing.
 use borrow.Author.Tests.{eq-eqb, ne-eqb}
-use Rattle.meaning.specs.Checks.{wrongLength}
+use Rattle.meaning.specs.Checks.{wrongSize}
 use Rattle.table.proofs.checks.wrong_length.Statement.{statement}
 use Rattle.table.proofs.checks.wrong_length.Tie as tie
 
 returns : tie.Need-returns
-unfolding wrongLength
+unfolding wrongSize
 returns c = rw (eq-eqb _ _ (c .if1 .taken))
 
 returns-2 : tie.Need-returns-2
-unfolding wrongLength
+unfolding wrongSize
 returns-2 c = rw (ne-eqb _ _ (c .before .if1 .left), ne-eqb _ _ (c .if2 .taken))
 
 returns-3 : tie.Need-returns-3
-unfolding wrongLength
+unfolding wrongSize
 returns-3 c = rw (ne-eqb _ _ (c .before .if1 .left), eq-eqb _ _ (c .if2 .left))
 
 pub wrong-length-spec : {M : Type 1} → statement M

@@ -2,7 +2,7 @@
 use mathlib.Core.Path.{sym}
 use denote.Ref.{now}
 use borrow.Author.Needs.{needs}
-use Rattle.table.proofs.Records.{records-at, records-beyond}
+use Rattle.meaning.proofs.Records.{records-at, records-beyond}
 use Rattle.table.proofs.record.at.Statement.{statement}
 use Rattle.table.proofs.record.at.Tie as tie
 

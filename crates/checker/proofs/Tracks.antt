@@ -1,0 +1,196 @@
+-- The invariant of the whole check (`Tracks`): the counts of each controller state are attained by runs, safe, and over the start; and a state
+-- that is not flagged leads, with each input, to counts that are not above the next state's. It holds at the start, each visit keeps it, and
+-- where no state is flagged the counts are closed, so that the rows keep every run to K. An overrun from attained counts shows that they
+-- don't. Assumes nothing.
+use mathlib.Core.Path.{_≡_, refl, sym, ap, _∙_, subst}
+use mathlib.Core.Logic.{_⊎_, inl, inr, ⊎-elim}
+use mathlib.Core.Bool.{Bool, true, false}
+use mathlib.Core.List.{List}
+use Prim.Native.Nat.{ℕ, _+_, _≤_, _<_, zero-le}
+use native.Mathlib.Nat.{le-trans, not-suc-le-zero, eq-zero-or-pos}
+use native.Mathlib.Decide.{decLt, ℕ-discrete}
+use native.Mathlib.Omega.{arith}
+use lib.Dec.{leb}
+use lib.IntN.{ℤ, negsuc}
+use lib.ListN.{length, getD, set, replicate, length-set, length-replicate, List·getD-eq-default}
+use lib.Seq.{getD-set-same, getD-set-other}
+use borrow.Author.Tests.{leb-false}
+use Rattle.meaning.specs.Lists.{place}
+use Rattle.meaning.specs.Table.{Table, Good, StartsDeclared}
+use Rattle.meaning.specs.Counting.{Position, count, safe, below, startPosition}
+use Rattle.meaning.specs.Written.{positionBytes, afterRound, Row}
+use Rattle.meaning.specs.Play.{Realizes, rowsIn, rowOutput, rowNext}
+use Rattle.meaning.specs.Controller.{firstState, hasRows}
+use Rattle.meaning.proofs.Tests.{clash}
+use Rattle.meaning.proofs.Lists.{place-holds, place-before, getD-alike}
+use Rattle.meaning.proofs.Steps.{below-at, below-of, safe-at, safe-of, safe-where}
+use Rattle.meaning.proofs.Winning.{round-from}
+use Rattle.meaning.proofs.Realizes.{count-start, start-length}
+use Rattle.meaning.proofs.Formed.{formed, first-has, next-has}
+use Rattle.meaning.proofs.Followed.{Fitting, following, closed-realizes, Attained, AllAttained, start-attained, round-attained}
+use Rattle.meaning.proofs.Followed.{overrun-attained}
+use Rattle.counts.specs.Cells.{cells}
+use Rattle.counts.proofs.Wide.{wide-count}
+use Rattle.checker.specs.Followable.{Followable}
+use Rattle.checker.specs.Raised.{countsAt, flagAt}
+use Rattle.checker.specs.Visited.{ForAll, ledTo, Visited, Overruns}
+use Rattle.checker.proofs.Counts.{counts-here, counts-elsewhere, counts-nowhere}
+use Rattle.checker.proofs.Room.{each-refuted}
+
+pub record Tracks (K : ℕ) (t : Table) (rows : List Row) (most : List (List ℤ)) (risen : List Bool) : Type 0 where
+  pub begins : (q : ℕ) → count (startPosition K t) q ≤ count (countsAt most (firstState rows)) q
+  pub safely : (s : ℕ) → safe K (countsAt most s) ≡ true
+  pub attained : (s : ℕ) → AllAttained t rows s (countsAt most s)
+  pub named : (s : ℕ) → flagAt risen s ≡ true → hasRows rows s ≡ true
+  pub closed : (s i : ℕ) → hasRows rows s ≡ true → i < t .inputs → (flagAt risen s ≡ true)
+      ⊎ ((q : ℕ) → count (ledTo K t rows s (countsAt most s) i) q ≤ count (countsAt most (rowNext rows s i)) q)
+
+-- rows that can be followed fit the table
+pub fitting : {K : ℕ} {t : Table} {bytes : List ℕ} → Followable K t bytes → Fitting t (rowsIn bytes)
+fitting {bytes = bytes} f = record { formed = formed bytes (f .formed); outputs = f .outputs; inputs = f .inputs }
+
+-- the flags: the first that is up, and none
+pub flag-up : (risen : List Bool) (s : ℕ) → s ≡ place (λ b. b) risen → length risen ≡ 256 → s < 256 → flagAt risen s ≡ true
+flag-up risen s e long low = rw e (place-holds (λ b. b) risen false (omega arith))
+
+pub no-flag : (risen : List Bool) (s : ℕ) → s ≡ place (λ b. b) risen → length risen ≡ 256 → 256 ≤ s → (r : ℕ) → flagAt risen r ≡ false
+no-flag risen s e long high r = go (decLt r 256)
+  where
+    go : Dec (r < 256) → flagAt risen r ≡ false
+    go (yes l) = place-before (λ b. b) risen false r (omega arith)
+    go (no l) = List·getD-eq-default risen false (omega arith)
+
+module _ (K : ℕ) (t : Table) (rows : List Row) where
+  -- an attained count may be put for an equal one
+  attained-as : {s r q c d : ℕ} → s ≡ r → c ≡ d → Attained t rows s q c → Attained t rows r q d
+  attained-as e f a = rw (← e, ← f) a
+
+  -- a round from nowhere leads nowhere
+  none-led : (s : ℕ) (F : Position) → ((q : ℕ) → count F q ≡ 0) → (i q : ℕ) → count (ledTo K t rows s F i) q ≡ 0
+  none-led s F none i q =
+      ⊎-elim (λ (e : count (ledTo K t rows s F i) q ≡ 0). e)
+      (λ c. let a = round-from K t F (rowOutput rows s) i q c in absurd (omega (arith, a .4, none (a .0))))
+      (eq-zero-or-pos (count (ledTo K t rows s F i) q))
+
+  -- at the start: the start position in the first state, which alone is flagged, and nowhere in the others
+  module _ (few : t .controllers ≤ 8) (first : ℕ) (is-first : first ≡ firstState rows) (low : first < 256) (m : List ℤ)
+      (e : cells m ≡ positionBytes (startPosition K t)) (has : hasRows rows (firstState rows) ≡ true) where
+    abbrev most₀ : List (List ℤ)
+    most₀ = set (replicate 256 (replicate 8 (negsuc 0))) first m
+
+    abbrev risen₀ : List Bool
+    risen₀ = set (replicate 256 false) first true
+
+    pub arrays-start : ForAll most₀ risen₀
+    arrays-start =
+        record {
+          counts = length-set (replicate 256 (replicate 8 (negsuc 0))) first m ∙ length-replicate 256 (replicate 8 (negsuc 0));
+          flags = length-set (replicate 256 false) first true ∙ length-replicate 256 false;
+        }
+
+    started : (q : ℕ) → count (countsAt most₀ first) q ≡ count (startPosition K t) q
+    started q =
+        ap (λ (F : Position). count F q) (counts-here (replicate 256 (replicate 8 (negsuc 0))) first m low ∙ e)
+        ∙ wide-count (startPosition K t) (rw (start-length K t) few) q
+
+    elsewhere : (s : ℕ) → (s ≡ first → ⊥) → (q : ℕ) → count (countsAt most₀ s) q ≡ 0
+    elsewhere s d q =
+        ap (λ (F : Position). count F q) (counts-elsewhere (replicate 256 (replicate 8 (negsuc 0))) first m s d) ∙ counts-nowhere 256 s q
+
+    pub tracks-start : Tracks K t rows most₀ risen₀
+    tracks-start =
+        record {
+          begins = λ q. rw (← is-first) (omega (arith, started q));
+          safely = λ s. go-safe s (ℕ-discrete s first);
+          attained = λ s q c. go-attained s q c (ℕ-discrete s first);
+          named = λ s f. go-named s f (ℕ-discrete s first);
+          closed = λ s i h l. go-closed s i (ℕ-discrete s first);
+        }
+      where
+        go-safe : (s : ℕ) → Dec (s ≡ first) → safe K (countsAt most₀ s) ≡ true
+        go-safe s (yes f) =
+            rw f (safe-where K (countsAt most₀ first)
+            (λ q c. omega (arith, started q, count-start K t q (omega (arith, started q)) .1)))
+        go-safe s (no d) = safe-of K (countsAt most₀ s) (λ q _. omega (arith, elsewhere s d q))
+
+        go-attained : (s q : ℕ) → 0 < count (countsAt most₀ s) q → Dec (s ≡ first) → Attained t rows s q (count (countsAt most₀ s) q)
+        go-attained s q c (yes f) =
+            let same = ap (λ (r : ℕ). count (countsAt most₀ r) q) f ∙ started q in
+            attained-as (sym is-first ∙ sym f) (sym same) (start-attained K t rows q (omega (arith, same)))
+        go-attained s q c (no d) = absurd (omega (arith, elsewhere s d q))
+
+        go-named : (s : ℕ) → flagAt risen₀ s ≡ true → Dec (s ≡ first) → hasRows rows s ≡ true
+        go-named s f (yes g) = rw (g, is-first) has
+        go-named s f (no d) = absurd (clash (flagAt risen₀ s) f (getD-set-other (replicate 256 false) first s true false d ∙ getD-alike 256 s false))
+
+        go-closed : (s i : ℕ) → Dec (s ≡ first) → (flagAt risen₀ s ≡ true)
+            ⊎ ((q : ℕ) → count (ledTo K t rows s (countsAt most₀ s) i) q ≤ count (countsAt most₀ (rowNext rows s i)) q)
+        go-closed s i (yes f) = inl (rw f (getD-set-same (replicate 256 false) first true false low))
+        go-closed s i (no d) = inr (λ q. omega (arith, none-led s (countsAt most₀ s) (elsewhere s d) i q))
+
+  module _ (most : List (List ℤ)) (risen : List Bool) (tracks : Tracks K t rows most risen) where
+    -- a visit of a flagged state, whose flag was taken down before
+    module _ (fits : Fitting t rows) (s : ℕ) (low : s < length risen) (flag : flagAt risen s ≡ true) (most′ : List (List ℤ))
+        (risen′ : List Bool) (visited : Visited K t rows s most (set risen s false) most′ risen′) where
+      down : flagAt (set risen s false) s ≡ false
+      down = getD-set-same risen s false false low
+
+      led-attained : (r q : ℕ) → 0 < count (countsAt most′ r) q → (i : ℕ) → rowNext rows s i ≡ r
+          → count (countsAt most′ r) q ≡ count (ledTo K t rows s (countsAt most s) i) q
+          → Attained t rows r q (count (countsAt most′ r) q)
+      led-attained r q c i e same =
+          attained-as e (sym same) (round-attained K t rows s i (countsAt most s) (tracks .attained s) q (omega (arith, same)))
+
+      pub tracks-visit : Tracks K t rows most′ risen′
+      tracks-visit =
+          record {
+            begins = λ q. le-trans (tracks .begins q) (visited .over (firstState rows) q);
+            safely = λ r.
+                safe-of K (countsAt most′ r)
+                (λ q _. ⊎-elim (λ (same : count (countsAt most′ r) q ≡ count (countsAt most r) q). omega (arith, safe-at K _ (tracks .safely r) q))
+                (λ w. omega (arith, w .3, safe-at K _ (visited .safely (w .0) (w .1)) q)) (visited .came r q));
+            attained = λ r q c.
+                ⊎-elim (λ same. attained-as refl (sym same) (tracks .attained r q (omega (arith, same))))
+                (λ w. led-attained r q c (w .0) (w .2) (w .3)) (visited .came r q);
+            named = λ r f. ⊎-elim (λ g. tracks .named r (kept r g (ℕ-discrete r s))) (λ w. rw (← w .2) (next-named (w .0) (w .1))) (visited .named r f);
+            closed = λ r i h l. ⊎-elim (λ f. inl f) (λ same. stays r i h l same (ℕ-discrete r s)) (visited .flagged r);
+          }
+        where
+          kept : (r : ℕ) → flagAt (set risen s false) r ≡ true → Dec (r ≡ s) → flagAt risen r ≡ true
+          kept r g (yes e) = absurd (clash _ (ap (flagAt (set risen s false)) (sym e) ∙ g) down)
+          kept r g (no d) = sym (getD-set-other risen s r false false d) ∙ g
+
+          next-named : (i : ℕ) → i < t .inputs → hasRows rows (rowNext rows s i) ≡ true
+          next-named i l = next-has rows (fits .formed) s (tracks .named s flag) i (omega (arith, fits .inputs))
+
+          stays : (r i : ℕ) → hasRows rows r ≡ true → i < t .inputs
+              → (countsAt most′ r ≡ countsAt most r) × (flagAt risen′ r ≡ flagAt (set risen s false) r) → Dec (r ≡ s)
+              → (flagAt risen′ r ≡ true)
+              ⊎ ((q : ℕ) → count (ledTo K t rows r (countsAt most′ r) i) q ≤ count (countsAt most′ (rowNext rows r i)) q)
+          stays r i h l same (yes e) = inr (rw (same .0, e) (visited .covers i l))
+          stays r i h l same (no d) =
+              ⊎-elim (λ f. inl (same .1 ∙ getD-set-other risen s r false false d ∙ f))
+              (λ under. inr (rw (same .0) (λ q. le-trans (under q) (visited .over (rowNext rows r i) q))))
+              (tracks .closed r i h l)
+
+    -- an overrun shows that following the rows does not keep every run to K
+    pub tracks-overrun : (s : ℕ) → Overruns K t rows s (countsAt most s) → Realizes K t (following rows) → ⊥
+    unfolding safe
+    tracks-overrun s over realizes =
+        let i = over .0 in
+        let F = ledTo K t rows s (countsAt most s) i in
+        let q = each-refuted (length F) (λ q. leb (count F q) (K + 1)) (over .1) in
+        let above = leb-false (count F (q .0)) (K + 1) (q .1) in
+        overrun-attained K t rows (rowNext rows s i) (q .0) (count F (q .0))
+        (round-attained K t rows s i (countsAt most s) (tracks .attained s) (q .0) (omega arith)) above realizes
+
+    -- where no state is flagged, it does
+    pub tracks-end : Good t → StartsDeclared t → Fitting t rows → ((s : ℕ) → flagAt risen s ≡ false) → Realizes K t (following rows)
+    tracks-end good declared fits none =
+        closed-realizes K t rows (countsAt most) good declared fits
+        (record {
+          begins = below-of (startPosition K t) (countsAt most (firstState rows)) (λ q _. tracks .begins q);
+          safely = λ s _. tracks .safely s;
+          closed = λ s i h l.
+              below-of _ _ (λ q _. ⊎-elim (λ f. absurd (clash (flagAt risen s) f (none s))) (λ under. under q) (tracks .closed s i h l));
+        })

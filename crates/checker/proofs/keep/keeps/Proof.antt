@@ -1,0 +1,198 @@
+-- `keeps` visits a flagged state until there is none. The loop's invariant is `Tracks`; with each visit the room for the counts to rise falls,
+-- or with the same room the number of flags. Assumes nothing.
+use mathlib.Core.Path.{_≡_, refl, sym, ap, _∙_}
+use mathlib.Core.Bool.{true, false, true≢false}
+use Prim.Native.Nat.{ℕ, _<_}
+use native.Mathlib.Omega.{arith}
+use borrow.Author.Needs.{needs}
+use borrow.Author.Tests.{not-true, not-false}
+use denote.Ref.{now}
+use lib.ListN.{length, length-set}
+use Rattle.meaning.specs.Counting.{startPosition}
+use Rattle.meaning.specs.Written.{positionBytes, Row}
+use Rattle.meaning.specs.Play.{rowsIn}
+use Rattle.meaning.proofs.Formed.{first-has}
+use Rattle.counts.specs.Cells.{cells, startCounts}
+use Rattle.table.specs.Packed.{tableIn}
+use Rattle.checker.specs.Raised.{flagAt}
+use Rattle.checker.specs.Visited.{ForAll}
+use Rattle.checker.proofs.Room.{ahead, visit-less}
+use Rattle.checker.proofs.Tracks.{fitting, flag-up, no-flag, Tracks, arrays-start, tracks-start, tracks-visit, tracks-overrun, tracks-end}
+use Rattle.checker.proofs.keep.keeps.Statement.{statement}
+use Rattle.checker.proofs.keep.keeps.Tie as tie
+
+abbrev Inv-loop : tie.InvT-loop
+Inv-loop table k rows places first most₀ risen₀ most risen = ForAll most risen × Tracks k (tableIn table) (rowsIn rows) most risen
+
+abbrev μ-loop : tie.MeasureT-loop
+μ-loop table k rows places first most₀ risen₀ most risen = ahead k most risen
+
+-- the start position, in eight counts
+begun : (c : tie.After-start Inv-loop μ-loop) →
+    let args = c .before .before .before .before .before .args in
+    cells (c .start .result) ≡ positionBytes (startPosition (args .k) (tableIn (args .table)))
+unfolding tableIn startPosition startCounts
+begun c = c .start .ensures
+
+-- the state that a turn visits
+module _ (c : tie.After-visit Inv-loop μ-loop) where
+  abbrev asked : tie.After-first-risen Inv-loop μ-loop
+  asked = c .before .before .before .before .before
+
+  abbrev at : tie.At-loop Inv-loop μ-loop
+  at = asked .before .before
+
+  abbrev start : tie.Start Inv-loop μ-loop
+  start = at .before .before .before .before .before .before
+
+  abbrev state : ℕ
+  state = asked .first-risen .result
+
+  low : state < 256
+  low = c .before .before .before .before .if1 .left
+
+  flag : flagAt (at .loop .risen) state ≡ true
+  flag = flag-up (at .loop .risen) state (asked .first-risen .ensures) (at .loop .inv .0 .flags) low
+
+  inside : state < length (at .loop .risen)
+  inside = omega (arith, at .loop .inv .0 .flags, low)
+
+  arrays : ForAll (c .visit .last .1 .1 .1 .1 .1 .0) (c .visit .last .1 .1 .1 .1 .1 .1 .0)
+  arrays =
+      record {
+        counts = c .visit .kept .1 .1 .1 .1 .1 .0 ∙ at .loop .inv .0 .counts;
+        flags = c .visit .kept .1 .1 .1 .1 .1 .1 .0 ∙ length-set (at .loop .risen) state false ∙ at .loop .inv .0 .flags;
+      }
+
+places-requires : tie.Need-places-requires Inv-loop μ-loop
+places-requires c κs = fitting (c .before .pre) .formed .few
+
+at-requires : tie.Need-at-requires Inv-loop μ-loop
+at-requires c κs = search needs
+
+cast-first : tie.Need-cast-first Inv-loop μ-loop
+cast-first c = search needs
+
+start-requires : tie.Need-start-requires Inv-loop μ-loop
+start-requires c κs = search needs
+
+mul-most : tie.Need-mul-most Inv-loop μ-loop
+mul-most c = search needs
+
+array-set-from-most : tie.Need-array-set-from-most Inv-loop μ-loop
+array-set-from-most c = search needs
+
+array-write-risen : tie.Need-array-write-risen Inv-loop μ-loop
+array-write-risen c = search needs
+
+loop-holds : tie.Need-loop-holds Inv-loop μ-loop
+loop-holds c =
+    let start = c .before .before .before .before .before in
+    let first = c .before .before .at in
+    let t = tableIn (start .args .table) in
+    let rows = rowsIn (now (start .args .rows)) in
+    let is-first = ap (λ (r : Row). r .state) (first .ensures) in
+    let has = first-has rows (fitting (start .pre) .formed) in
+    let few = start .pre .bounded .small .controllers in (
+      arrays-start (start .args .k) t rows few (first .result .state) is-first (omega (arith, first .ok)) (c .start .result) (begun c) has,
+      tracks-start (start .args .k) t rows few (first .result .state) is-first (omega (arith, first .ok)) (c .start .result) (begun c) has,
+    )
+
+slice-aggregate-first-risen : tie.Need-slice-aggregate-first-risen Inv-loop μ-loop
+slice-aggregate-first-risen c = search needs
+
+first-risen-requires : tie.Need-first-risen-requires Inv-loop μ-loop
+first-risen-requires c κs = search needs
+
+returns : tie.Need-returns Inv-loop μ-loop
+returns c =
+    let asked = c .before in
+    let at = asked .before .before in
+    let start = at .before .before .before .before .before .before in
+    let none = no-flag (at .loop .risen) (asked .first-risen .result) (asked .first-risen .ensures) (at .loop .inv .0 .flags) (c .if1 .taken) in (
+      λ _. tracks-end (start .args .k) (tableIn (start .args .table)) (rowsIn (now (start .args .rows))) (at .loop .most) (at .loop .risen)
+          (at .loop .inv .1) (start .pre .good) (start .pre .declared) (fitting (start .pre)) none,
+      λ _. refl,
+    )
+
+array-write-risen-2 : tie.Need-array-write-risen-2 Inv-loop μ-loop
+array-write-risen-2 c = search needs
+
+slice-aggregate-visit : tie.Need-slice-aggregate-visit Inv-loop μ-loop
+slice-aggregate-visit c = search needs
+
+slice-aggregate-visit-2 : tie.Need-slice-aggregate-visit-2 Inv-loop μ-loop
+slice-aggregate-visit-2 c = search needs
+
+visit-requires : tie.Need-visit-requires Inv-loop μ-loop
+visit-requires c κs =
+    let asked = c .before .before .before .before in
+    let at = asked .before .before in
+    let start = at .before .before .before .before .before .before in
+    let s = asked .first-risen .result in
+    let low = c .before .before .before .if1 .left in
+    let flag = flag-up (at .loop .risen) s (asked .first-risen .ensures) (at .loop .inv .0 .flags) low in (
+      (
+        start .pre,
+        record {
+          formed = start .pre .formed;
+          placed = at .before .before .before .before .places .ensures;
+          has = at .loop .inv .1 .named s flag;
+        },
+      ),
+      (
+        record { counts = at .loop .inv .0 .counts; flags = length-set (at .loop .risen) s false ∙ at .loop .inv .0 .flags },
+        low,
+      ),
+    )
+
+returns-2 : tie.Need-returns-2 Inv-loop μ-loop
+returns-2 c =
+    let called = c .before .before .before in
+    let begin = start called in (
+      λ e. absurd (true≢false (sym e)),
+      λ realizes. absurd (tracks-overrun (begin .args .k) (tableIn (begin .args .table)) (rowsIn (now (begin .args .rows)))
+          (at called .loop .most) (at called .loop .risen) (at called .loop .inv .1) (state called)
+          (called .visit .ensures .1 (not-true _ (c .if2 .taken))) realizes),
+    )
+
+loop-less : tie.Need-loop-less Inv-loop μ-loop
+loop-less c =
+    let called = c .before .before .before in
+    visit-less (start called .args .k) (at called .loop .most) _ (at called .loop .risen) _ (state called) (inside called) (flag called)
+    (arrays called .flags) (called .visit .ensures .0 (not-false _ (c .if2 .left)) .rises)
+
+loop-again : tie.Need-loop-again Inv-loop μ-loop
+loop-again c =
+    let called = c .before .before .before in
+    let begin = start called in (
+      arrays called,
+      tracks-visit (begin .args .k) (tableIn (begin .args .table)) (rowsIn (now (begin .args .rows))) (at called .loop .most)
+          (at called .loop .risen) (at called .loop .inv .1) (fitting (begin .pre)) (state called) (inside called) (flag called) _ _
+          (called .visit .ensures .0 (not-false _ (c .if2 .left))),
+    )
+
+pub keeps-spec : {M : Type 1} → statement M
+keeps-spec =
+    tie.close
+    (tie.spec
+    Inv-loop
+    μ-loop
+    places-requires
+    at-requires
+    cast-first
+    start-requires
+    mul-most
+    array-set-from-most
+    array-write-risen
+    loop-holds
+    slice-aggregate-first-risen
+    first-risen-requires
+    returns
+    array-write-risen-2
+    slice-aggregate-visit
+    slice-aggregate-visit-2
+    visit-requires
+    returns-2
+    loop-less
+    loop-again)

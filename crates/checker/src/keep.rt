@@ -1,0 +1,50 @@
+// The largest counts of the runs that can be in each controller state, raised until nothing changes.
+use crate::visit;
+use counts::position;
+use table::Table;
+ghost use mathlib.Core.Path.{_≡_};
+ghost use mathlib.Core.Logic.{_↔_};
+ghost use mathlib.Core.Bool.{true};
+ghost use Rattle.meaning.specs.Lists.{place};
+ghost use Rattle.meaning.specs.Play.{Realizes};
+ghost use Rattle.meaning.specs.Controller.{followed};
+ghost use Rattle.table.specs.Packed.{tableIn};
+ghost use Rattle.checker.specs.Followable.{Followable};
+
+// Whether following the rows keeps every run to k. Only a state whose counts have risen is visited
+// again, and each of its eight counts can rise k + 2 times.
+pub fn keeps(table: Table, k: usize, rows: &[u8]) -> bool
+    requires { ⌜ Followable k (tableIn table) (now rows) ⌝ }
+    ensures { λ r. ⌜ (r ≡ true) ↔ Realizes k (tableIn table) (followed (now (rows .entry))) ⌝ }
+{
+    let places = rows::places(rows);
+    let first = rows::at(rows, 0).state as usize;
+    let mut most = [[-1i8; 8]; 256];
+    let mut risen = [false; 256];
+    most[first] = position::start(table.starts, table.controllers, k);
+    risen[first] = true;
+    loop {
+        let s = first_risen(&risen);
+        if 256 <= s {
+            return true;
+        }
+        risen[s] = false;
+        if !visit::visit(table, k, rows, &places, s, &mut most, &mut risen) {
+            return false;
+        }
+    }
+}
+
+// The first state that is flagged, or how many flags there are.
+fn first_risen(risen: &[bool]) -> usize
+    ensures { λ r. ⌜ r ≡ place (λ b. b) (now (risen .entry)) ⌝ }
+{
+    let mut s = 0;
+    while s < risen.len() {
+        if risen[s] {
+            return s;
+        }
+        s += 1;
+    }
+    s
+}

@@ -1,0 +1,2 @@
+-- What the contracts of this crate cite beside the definitions of `meaning`.
+pub mod Placed
