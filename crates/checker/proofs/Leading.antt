@@ -2,18 +2,17 @@
 -- counts only rise and a state that is not flagged is as it was. Assumes nothing.
 use mathlib.Core.Path.{_≡_, refl, sym, ap, _∙_, subst}
 use mathlib.Core.Logic.{_⊎_, inl, inr, ⊎-elim}
-use mathlib.Core.Bool.{Bool, true, false}
+use mathlib.Core.Bool.{Bool, true}
 use mathlib.Core.List.{List}
 use Prim.Native.Nat.{ℕ, _+_, _≤_, _<_, max}
 use native.Mathlib.Nat.{le-refl}
 use native.Mathlib.Decide.{decLe, ℕ-discrete}
 use native.Mathlib.Omega.{arith}
 use borrow.Author.Count.{below-none, below-more}
-use lib.IntN.{ℤ}
 use Rattle.meaning.specs.Counting.{Position, count, safe}
 use Rattle.checker.specs.Raised.{countsAt, flagAt, roomOfAll, Rises, Raised, Led}
 
-module _ (K : ℕ) (next : ℕ → ℕ) (after : ℕ → Position) (most : List (List ℤ)) (risen : List Bool) where
+module _ (K : ℕ) (next : ℕ → ℕ) (after : ℕ → Position) (most : List ℕ) (risen : List Bool) where
   pub led-none : Led K 0 next after most risen most risen
   led-none =
       record {
@@ -26,7 +25,7 @@ module _ (K : ℕ) (next : ℕ → ℕ) (after : ℕ → Position) (most : List 
         rises = inr (refl, refl);
       }
 
-  module _ (n : ℕ) {most₁ most₂ : List (List ℤ)} {risen₁ risen₂ : List Bool} (led : Led K n next after most risen most₁ risen₁)
+  module _ (n : ℕ) {most₁ most₂ : List ℕ} {risen₁ risen₂ : List Bool} (led : Led K n next after most risen most₁ risen₁)
       (safely : safe K (after n) ≡ true) (raised : Raised K (next n) (after n) most₁ risen₁ most₂ risen₂) where
     -- one state's counts rise, all others stay
     rose : (s q : ℕ) → count (countsAt most₁ s) q ≤ count (countsAt most₂ s) q

@@ -3,6 +3,7 @@ pub mod Counts
 pub mod Room
 pub mod Raising
 pub mod Leading
+pub mod Stated
 pub mod Visiting
 pub mod Tracks
 pub mod InOrder

@@ -7,14 +7,13 @@ use mathlib.Core.List.{List, [], _∷_}
 use Prim.Native.Nat.{ℕ, zero, suc, _+_, _-_, _*_, _≤_, _<_}
 use native.Mathlib.Nat.{le-of-suc-le-suc, not-suc-le-zero}
 use native.Mathlib.Omega.{arith}
-use lib.IntN.{ℤ}
 use lib.Dec.{leb}
 use lib.ListN.{length, getD, set}
 use borrow.Author.Tests.{leb-false}
 use Rattle.meaning.specs.Lists.{each, keep}
 use Rattle.meaning.specs.Counting.{Position, count, below}
 use Rattle.meaning.proofs.Sizes.{keep-length}
-use Rattle.counts.specs.Cells.{cells}
+use Rattle.counts.specs.Words.{countsIn}
 use Rattle.checker.specs.Raised.{room, roomOfAll, Rises}
 
 room-least : (K : ℕ) (F G : Position) → length F ≡ length G → ((q : ℕ) → count F q ≤ count G q) → room K G ≤ room K F
@@ -35,12 +34,12 @@ room-less K (c ∷ F) (d ∷ G) e le (suc q) less most =
     omega (arith, le zero, room-less K F G (omega (arith, e)) (λ q. le (suc q)) q less most)
 
 -- one state's counts set anew
-pub room-set : (K : ℕ) (most : List (List ℤ)) (s : ℕ) (m d : List ℤ) → s < length most → room K (cells m) < room K (cells (getD most s d))
+pub room-set : (K : ℕ) (most : List ℕ) (s m : ℕ) → s < length most → room K (countsIn m) < room K (countsIn (getD most s 0))
     → roomOfAll K (set most s m) < roomOfAll K most
 unfolding roomOfAll
-room-set K [] s m d l less = absurd (not-suc-le-zero l)
-room-set K (x ∷ most) zero m d l less = omega (arith, less)
-room-set K (x ∷ most) (suc s) m d l less = omega (arith, room-set K most s m d (le-of-suc-le-suc l) less)
+room-set K [] s m l less = absurd (not-suc-le-zero l)
+room-set K (x ∷ most) zero m l less = omega (arith, less)
+room-set K (x ∷ most) (suc s) m l less = omega (arith, room-set K most s m (le-of-suc-le-suc l) less)
 
 -- where a test of each fails, it fails somewhere; so a position that is not below another is over it somewhere
 pub each-refuted : (n : ℕ) (f : ℕ → Bool) → each n f ≡ false → (i : ℕ) × (f i ≡ false)
@@ -67,10 +66,10 @@ flags-down (true ∷ risen) (suc s) l f = ap suc (flags-down risen s (le-of-suc-
 flags-down (false ∷ risen) (suc s) l f = flags-down risen s (le-of-suc-le-suc l) f
 
 -- what falls with each visit: the room, or with the same room the number of flags, of which there are at most 256
-abbrev pub ahead : ℕ → List (List ℤ) → List Bool → ℕ
+abbrev pub ahead : ℕ → List ℕ → List Bool → ℕ
 ahead K most risen = roomOfAll K most * 257 + flags risen
 
-pub visit-less : (K : ℕ) (most most′ : List (List ℤ)) (risen risen′ : List Bool) (s : ℕ) → s < length risen → getD risen s false ≡ true
+pub visit-less : (K : ℕ) (most most′ : List ℕ) (risen risen′ : List Bool) (s : ℕ) → s < length risen → getD risen s false ≡ true
     → length risen′ ≡ 256 → Rises K most (set risen s false) most′ risen′ → ahead K most′ risen′ < ahead K most risen
 visit-less K most most′ risen risen′ s l f long =
     ⊎-elim

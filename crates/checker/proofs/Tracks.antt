@@ -2,42 +2,42 @@
 -- that is not flagged leads, with each input, to counts that are not above the next state's. It holds at the start, each visit keeps it, and
 -- where no state is flagged the counts are closed, so that the rows keep every run to K. An overrun from attained counts shows that they
 -- don't. Assumes nothing.
-use mathlib.Core.Path.{_≡_, refl, sym, ap, _∙_, subst}
+use mathlib.Core.Path.{_≡_, refl, sym, ap, _∙_}
 use mathlib.Core.Logic.{_⊎_, inl, inr, ⊎-elim}
 use mathlib.Core.Bool.{Bool, true, false}
 use mathlib.Core.List.{List}
-use Prim.Native.Nat.{ℕ, _+_, _≤_, _<_, zero-le}
-use native.Mathlib.Nat.{le-trans, not-suc-le-zero, eq-zero-or-pos}
+use Prim.Native.Nat.{ℕ, _+_, _≤_, _<_}
+use native.Mathlib.Nat.{le-trans, eq-zero-or-pos}
 use native.Mathlib.Decide.{decLt, ℕ-discrete}
 use native.Mathlib.Omega.{arith}
 use lib.Dec.{leb}
-use lib.IntN.{ℤ, negsuc}
-use lib.ListN.{length, getD, set, replicate, length-set, length-replicate, List·getD-eq-default}
+use lib.ListN.{length, set, replicate, length-set, length-replicate, List·getD-eq-default}
 use lib.Seq.{getD-set-same, getD-set-other}
 use borrow.Author.Tests.{leb-false}
-use Rattle.meaning.specs.Lists.{place}
+use Rattle.meaning.specs.Lists.{every, place}
 use Rattle.meaning.specs.Table.{Table, Good, StartsDeclared}
-use Rattle.meaning.specs.Counting.{Position, count, safe, below, startPosition}
-use Rattle.meaning.specs.Written.{positionBytes, afterRound, Row}
+use Rattle.meaning.specs.Counting.{Position, count, safe, startPosition}
+use Rattle.meaning.specs.Written.{positionBytes, Row}
 use Rattle.meaning.specs.Play.{Realizes, rowsIn, rowOutput, rowNext}
 use Rattle.meaning.specs.Controller.{firstState, hasRows}
 use Rattle.meaning.proofs.Tests.{clash}
 use Rattle.meaning.proofs.Lists.{place-holds, place-before, getD-alike}
-use Rattle.meaning.proofs.Steps.{below-at, below-of, safe-at, safe-of, safe-where}
+use Rattle.meaning.proofs.Steps.{below-of, safe-at, safe-of, safe-where}
 use Rattle.meaning.proofs.Winning.{round-from}
 use Rattle.meaning.proofs.Realizes.{count-start, start-length}
-use Rattle.meaning.proofs.Formed.{formed, first-has, next-has}
+use Rattle.meaning.proofs.Formed.{formed, next-has}
 use Rattle.meaning.proofs.Followed.{Fitting, following, closed-realizes, Attained, AllAttained, start-attained, round-attained}
 use Rattle.meaning.proofs.Followed.{overrun-attained}
-use Rattle.counts.specs.Cells.{cells}
+use Rattle.counts.specs.Words.{countsIn}
 use Rattle.counts.proofs.Wide.{wide-count}
+use Rattle.counts.proofs.Packing.{low-counts}
 use Rattle.checker.specs.Followable.{Followable}
 use Rattle.checker.specs.Raised.{countsAt, flagAt}
 use Rattle.checker.specs.Visited.{ForAll, ledTo, Visited, Overruns}
 use Rattle.checker.proofs.Counts.{counts-here, counts-elsewhere, counts-nowhere}
 use Rattle.checker.proofs.Room.{each-refuted}
 
-pub record Tracks (K : ℕ) (t : Table) (rows : List Row) (most : List (List ℤ)) (risen : List Bool) : Type 0 where
+pub record Tracks (K : ℕ) (t : Table) (rows : List Row) (most : List ℕ) (risen : List Bool) : Type 0 where
   pub begins : (q : ℕ) → count (startPosition K t) q ≤ count (countsAt most (firstState rows)) q
   pub safely : (s : ℕ) → safe K (countsAt most s) ≡ true
   pub attained : (s : ℕ) → AllAttained t rows s (countsAt most s)
@@ -48,6 +48,15 @@ pub record Tracks (K : ℕ) (t : Table) (rows : List Row) (most : List (List ℤ
 -- rows that can be followed fit the table
 pub fitting : {K : ℕ} {t : Table} {bytes : List ℕ} → Followable K t bytes → Fitting t (rowsIn bytes)
 fitting {bytes = bytes} f = record { formed = formed bytes (f .formed); outputs = f .outputs; inputs = f .inputs }
+
+-- the start position has room in a word
+pub start-low : (K : ℕ) (t : Table) → t .controllers ≤ 8 → every (λ c. leb c 127) (positionBytes (startPosition K t)) ≡ true
+start-low K t few =
+    low-counts (positionBytes (startPosition K t))
+    (λ q. ⊎-elim (λ (e : count (positionBytes (startPosition K t)) q ≡ 0). omega arith)
+    (λ c. let same = wide-count (startPosition K t) (rw (start-length K t) few) q in
+    omega (arith, same, count-start K t q (omega (arith, same)) .1))
+    (eq-zero-or-pos (count (positionBytes (startPosition K t)) q)))
 
 -- the flags: the first that is up, and none
 pub flag-up : (risen : List Bool) (s : ℕ) → s ≡ place (λ b. b) risen → length risen ≡ 256 → s < 256 → flagAt risen s ≡ true
@@ -73,10 +82,10 @@ module _ (K : ℕ) (t : Table) (rows : List Row) where
       (eq-zero-or-pos (count (ledTo K t rows s F i) q))
 
   -- at the start: the start position in the first state, which alone is flagged, and nowhere in the others
-  module _ (few : t .controllers ≤ 8) (first : ℕ) (is-first : first ≡ firstState rows) (low : first < 256) (m : List ℤ)
-      (e : cells m ≡ positionBytes (startPosition K t)) (has : hasRows rows (firstState rows) ≡ true) where
-    abbrev most₀ : List (List ℤ)
-    most₀ = set (replicate 256 (replicate 8 (negsuc 0))) first m
+  module _ (few : t .controllers ≤ 8) (first : ℕ) (is-first : first ≡ firstState rows) (low : first < 256) (m : ℕ)
+      (e : countsIn m ≡ positionBytes (startPosition K t)) (has : hasRows rows (firstState rows) ≡ true) where
+    abbrev most₀ : List ℕ
+    most₀ = set (replicate 256 0) first m
 
     abbrev risen₀ : List Bool
     risen₀ = set (replicate 256 false) first true
@@ -84,18 +93,18 @@ module _ (K : ℕ) (t : Table) (rows : List Row) where
     pub arrays-start : ForAll most₀ risen₀
     arrays-start =
         record {
-          counts = length-set (replicate 256 (replicate 8 (negsuc 0))) first m ∙ length-replicate 256 (replicate 8 (negsuc 0));
+          counts = length-set (replicate 256 0) first m ∙ length-replicate {A = ℕ} 256 0;
           flags = length-set (replicate 256 false) first true ∙ length-replicate 256 false;
         }
 
     started : (q : ℕ) → count (countsAt most₀ first) q ≡ count (startPosition K t) q
     started q =
-        ap (λ (F : Position). count F q) (counts-here (replicate 256 (replicate 8 (negsuc 0))) first m low ∙ e)
+        ap (λ (F : Position). count F q) (counts-here (replicate 256 0) first m low ∙ e)
         ∙ wide-count (startPosition K t) (rw (start-length K t) few) q
 
     elsewhere : (s : ℕ) → (s ≡ first → ⊥) → (q : ℕ) → count (countsAt most₀ s) q ≡ 0
     elsewhere s d q =
-        ap (λ (F : Position). count F q) (counts-elsewhere (replicate 256 (replicate 8 (negsuc 0))) first m s d) ∙ counts-nowhere 256 s q
+        ap (λ (F : Position). count F q) (counts-elsewhere (replicate 256 0) first m s d) ∙ counts-nowhere 256 s q
 
     pub tracks-start : Tracks K t rows most₀ risen₀
     tracks-start =
@@ -128,9 +137,9 @@ module _ (K : ℕ) (t : Table) (rows : List Row) where
         go-closed s i (yes f) = inl (rw f (getD-set-same (replicate 256 false) first true false low))
         go-closed s i (no d) = inr (λ q. omega (arith, none-led s (countsAt most₀ s) (elsewhere s d) i q))
 
-  module _ (most : List (List ℤ)) (risen : List Bool) (tracks : Tracks K t rows most risen) where
+  module _ (most : List ℕ) (risen : List Bool) (tracks : Tracks K t rows most risen) where
     -- a visit of a flagged state, whose flag was taken down before
-    module _ (fits : Fitting t rows) (s : ℕ) (low : s < length risen) (flag : flagAt risen s ≡ true) (most′ : List (List ℤ))
+    module _ (fits : Fitting t rows) (s : ℕ) (low : s < length risen) (flag : flagAt risen s ≡ true) (most′ : List ℕ)
         (risen′ : List Bool) (visited : Visited K t rows s most (set risen s false) most′ risen′) where
       down : flagAt (set risen s false) s ≡ false
       down = getD-set-same risen s false false low

@@ -3,22 +3,21 @@
 use mathlib.Core.Path.{_≡_, refl, ap, _∙_}
 use mathlib.Core.List.{List}
 use Prim.Native.Nat.{ℕ}
-use lib.IntN.{ℤ}
 use Rattle.meaning.specs.Table.{Table, onOutput, onInput}
 use Rattle.meaning.specs.Counting.{Position, forward}
 use Rattle.meaning.specs.Written.{positionBytes, afterRound, Row}
 use Rattle.meaning.specs.Play.{rowOutput}
 use Rattle.meaning.proofs.Steps.{forward-length}
-use Rattle.counts.specs.Cells.{cells}
+use Rattle.counts.specs.Words.{countsIn}
 use Rattle.counts.proofs.Wide.{forward-wide}
 use Rattle.table.specs.declared.Table as D
 use Rattle.table.specs.Packed.{tableIn}
 use Rattle.steps.specs.Bounded.{Bounded}
 use Rattle.checker.specs.Visited.{ledTo}
 
-pub led-to : (K : ℕ) (t : Table) → Bounded K t → (rows : List Row) (s : ℕ) (F : Position) (middle : List ℤ)
-    → cells middle ≡ positionBytes (forward K (onOutput t (rowOutput rows s)) F)
-    → (i : ℕ) → forward K (onInput t i) (cells middle) ≡ ledTo K t rows s F i
+pub led-to : (K : ℕ) (t : Table) → Bounded K t → (rows : List Row) (s : ℕ) (F : Position) (middle : ℕ)
+    → countsIn middle ≡ positionBytes (forward K (onOutput t (rowOutput rows s)) F)
+    → (i : ℕ) → forward K (onInput t i) (countsIn middle) ≡ ledTo K t rows s F i
 unfolding afterRound
 led-to K t bounded rows s F middle e i =
     let G = forward K (onOutput t (rowOutput rows s)) F in

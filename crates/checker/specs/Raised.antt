@@ -4,14 +4,13 @@ use mathlib.Core.Logic.{_⊎_}
 use mathlib.Core.Bool.{Bool, true, false}
 use mathlib.Core.List.{List, [], _∷_}
 use Prim.Native.Nat.{ℕ, _+_, _-_, _≤_, _<_, max}
-use lib.IntN.{ℤ, negsuc}
-use lib.ListN.{getD, replicate}
+use lib.ListN.{getD}
 use Rattle.meaning.specs.Counting.{Position, count, safe}
-use Rattle.counts.specs.Cells.{cells}
+use Rattle.counts.specs.Words.{countsIn}
 
 -- a state's counts, and its flag; past the array there is no run, and no flag
-unfoldable pub countsAt : List (List ℤ) → ℕ → Position
-countsAt most s = cells (getD most s (replicate 8 (negsuc 0)))
+unfoldable pub countsAt : List ℕ → ℕ → Position
+countsAt most s = countsIn (getD most s 0)
 
 abbrev pub flagAt : List Bool → ℕ → Bool
 flagAt risen s = getD risen s false
@@ -21,12 +20,12 @@ unfoldable pub room : ℕ → List ℕ → ℕ
 room K [] = 0
 room K (c ∷ cs) = (K + 2 - c) + room K cs
 
-unfoldable pub roomOfAll : ℕ → List (List ℤ) → ℕ
+unfoldable pub roomOfAll : ℕ → List ℕ → ℕ
 roomOfAll K [] = 0
-roomOfAll K (m ∷ ms) = room K (cells m) + roomOfAll K ms
+roomOfAll K (m ∷ ms) = room K (countsIn m) + roomOfAll K ms
 
 -- counts and flags afterwards: there is less room, or they are as they were
-abbrev pub Rises : ℕ → List (List ℤ) → List Bool → List (List ℤ) → List Bool → Type 0
+abbrev pub Rises : ℕ → List ℕ → List Bool → List ℕ → List Bool → Type 0
 Rises K most risen most′ risen′ = (roomOfAll K most′ < roomOfAll K most) ⊎ ((most′ ≡ most) × (risen′ ≡ risen))
 
 -- each count is the greater of two
@@ -34,7 +33,7 @@ abbrev pub GreaterOf : Position → Position → Position → Type 0
 GreaterOf F G H = (q : ℕ) → count H q ≡ max (count F q) (count G q)
 
 -- Raised for a position F of state s: each count of s is the greater of its own and F's; if one rose s is flagged; all else stays
-pub record Raised (K s : ℕ) (F : Position) (most : List (List ℤ)) (risen : List Bool) (most′ : List (List ℤ)) (risen′ : List Bool)
+pub record Raised (K s : ℕ) (F : Position) (most : List ℕ) (risen : List Bool) (most′ : List ℕ) (risen′ : List Bool)
     : Type 0 where
   pub greatest : GreaterOf (countsAt most s) F (countsAt most′ s)
   pub flagged : (flagAt risen′ s ≡ true) ⊎ ((most′ ≡ most) × (risen′ ≡ risen))
@@ -42,11 +41,11 @@ pub record Raised (K s : ℕ) (F : Position) (most : List (List ℤ)) (risen : L
   pub rises : Rises K most risen most′ risen′
 
 -- for every K that F is safe for
-abbrev pub RaisedSafely : ℕ → Position → List (List ℤ) → List Bool → List (List ℤ) → List Bool → Type 0
+abbrev pub RaisedSafely : ℕ → Position → List ℕ → List Bool → List ℕ → List Bool → Type 0
 RaisedSafely s F most risen most′ risen′ = (K : ℕ) → safe K F ≡ true → Raised K s F most risen most′ risen′
 
 -- Led on for the first n inputs, where input i leads to the state `next i` with the position `after i`
-pub record Led (K n : ℕ) (next : ℕ → ℕ) (after : ℕ → Position) (most : List (List ℤ)) (risen : List Bool) (most′ : List (List ℤ))
+pub record Led (K n : ℕ) (next : ℕ → ℕ) (after : ℕ → Position) (most : List ℕ) (risen : List Bool) (most′ : List ℕ)
     (risen′ : List Bool) : Type 0 where
   -- each of these positions is safe, and the next state's counts are over it
   pub safely : (i : ℕ) → i < n → safe K (after i) ≡ true

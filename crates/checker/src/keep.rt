@@ -1,6 +1,7 @@
 // The largest counts of the runs that can be in each controller state, raised until nothing changes.
 use crate::visit;
 use counts::position;
+use counts::word;
 use table::Table;
 ghost use mathlib.Core.Path.{_≡_};
 ghost use mathlib.Core.Logic.{_↔_};
@@ -19,9 +20,17 @@ pub fn keeps(table: Table, k: usize, rows: &[u8]) -> bool
 {
     let places = rows::places(rows);
     let first = rows::at(rows, 0).state as usize;
-    let mut most = [[-1i8; 8]; 256];
+    let output_targets = table.output_targets;
+    let world_marks = table.world_marks;
+    let input_targets = table.input_targets;
+    let controller_marks = table.controller_marks;
+    let out_spreads = word::spreads(output_targets);
+    let out_marks = word::marks(world_marks);
+    let in_spreads = word::spreads(input_targets);
+    let in_marks = word::marks(controller_marks);
+    let mut most = [0u64; 256];
     let mut risen = [false; 256];
-    most[first] = position::start(table.starts, table.controllers, k);
+    most[first] = word::pack(&position::start(table.starts, table.controllers, k));
     risen[first] = true;
     loop {
         let s = first_risen(&risen);
@@ -29,7 +38,19 @@ pub fn keeps(table: Table, k: usize, rows: &[u8]) -> bool
             return true;
         }
         risen[s] = false;
-        if !visit::visit(table, k, rows, &places, s, &mut most, &mut risen) {
+        if !visit::visit(
+            k,
+            rows,
+            &places,
+            &out_spreads,
+            out_marks,
+            &in_spreads,
+            in_marks,
+            table.inputs,
+            s,
+            &mut most,
+            &mut risen,
+        ) {
             return false;
         }
     }

@@ -1,6 +1,6 @@
--- The bars of a step back. The or of two words has the or of their counts (`or-counts`), by induction on the bytes. So a bar, or'ed with a
--- word that has one count in every byte, leaves that count to the sources with an edge and the highest to the others; and the least of
--- these over the targets is the step back under the most (`lowered-whole`), count by count. Assumes nothing.
+-- The bars of a step back. The or of two words has the or of their counts (`or-counts`), by induction on the bytes, and the and has their
+-- and. So a bar, or'ed with a word that has one count in every byte, leaves that count to the sources with an edge and the highest to the
+-- others; and the least of these over the targets is the step back under the most (`lowered-whole`), count by count. Assumes nothing.
 use mathlib.Core.Path.{_≡_, refl, sym, ap, _∙_}
 use mathlib.Core.Bool.{Bool, true, false, cond}
 use mathlib.Core.List.{List, [], _∷_}
@@ -9,7 +9,7 @@ use native.Mathlib.Nat.{le-refl}
 use native.Mathlib.Numerals.{add-one}
 use native.Mathlib.Omega.{arith}
 use borrow.Author.Tests.{lt-ltb, le-ltb}
-use lib.Bits.{bitAnd, bitOr, and-mask, and-comm, or-add-and, or-shr, or-mod, or-zero-l}
+use lib.Bits.{bitAnd, bitOr, and-mask, and-comm, or-add-and, and-shr, or-shr, and-mod, or-mod, or-zero-l}
 use lib.Dec.{ltb}
 use lib.IntN.{ℤ}
 use lib.ListN.{length, getD}
@@ -28,21 +28,27 @@ use Rattle.counts.proofs.Lesser.{lesser-at}
 use Rattle.counts.proofs.Bytes.{countsIn-length, countsIn-low, bytes}
 use Rattle.counts.proofs.Packing.{Packed, packed-none, packed-next, packed-whole}
 
--- an or of two numbers is the or of their counts
-or-before : (n a b : ℕ) (F G H : Position) → ((p : ℕ) → count H p ≡ bitOr (count F p) (count G p))
-    → (p : ℕ) → count (countsBefore n (bitOr a b) H) p ≡ bitOr (count (countsBefore n a F) p) (count (countsBefore n b G) p)
-unfolding countsBefore
-or-before zero a b F G H h = h
-or-before (suc n) a b F G H h =
-    rw (or-shr a b 8) (or-before n (a / 256) (b / 256) (a % 128 ∷ F) (b % 128 ∷ G) (bitOr a b % 128 ∷ H) go)
-  where
-    go : (p : ℕ) → count (bitOr a b % 128 ∷ H) p ≡ bitOr (count (a % 128 ∷ F) p) (count (b % 128 ∷ G) p)
-    go zero = or-mod a b 7
-    go (suc p) = h p
+-- what works on the bits of two numbers apart works on their counts
+module _ (op : ℕ → ℕ → ℕ) (high : (a b : ℕ) → op a b / 256 ≡ op (a / 256) (b / 256))
+    (low : (a b : ℕ) → op a b % 128 ≡ op (a % 128) (b % 128)) where
+  bits-before : (n a b : ℕ) (F G H : Position) → ((p : ℕ) → count H p ≡ op (count F p) (count G p))
+      → (p : ℕ) → count (countsBefore n (op a b) H) p ≡ op (count (countsBefore n a F) p) (count (countsBefore n b G) p)
+  unfolding countsBefore
+  bits-before zero a b F G H h = h
+  bits-before (suc n) a b F G H h =
+      rw (high a b) (bits-before n (a / 256) (b / 256) (a % 128 ∷ F) (b % 128 ∷ G) (op a b % 128 ∷ H) go)
+    where
+      go : (p : ℕ) → count (op a b % 128 ∷ H) p ≡ op (count (a % 128 ∷ F) p) (count (b % 128 ∷ G) p)
+      go zero = low a b
+      go (suc p) = h p
 
 or-counts : (a b p : ℕ) → count (countsIn (bitOr a b)) p ≡ bitOr (count (countsIn a) p) (count (countsIn b) p)
 unfolding countsIn
-or-counts a b p = or-before 8 a b [] [] [] (λ _. refl) p
+or-counts a b p = bits-before bitOr (λ a b. or-shr a b 8) (λ a b. or-mod a b 7) 8 a b [] [] [] (λ _. refl) p
+
+pub shared-counts : (a b p : ℕ) → count (countsIn (bitAnd a b)) p ≡ bitAnd (count (countsIn a) p) (count (countsIn b) p)
+unfolding countsIn
+shared-counts a b p = bits-before bitAnd (λ a b. and-shr a b 8) (λ a b. and-mod a b 7) 8 a b [] [] [] (λ _. refl) p
 
 -- the bar of target q: its counts, by the code's test of each source's bit
 abbrev barred : List ℕ → ℕ → ℕ → ℕ
@@ -64,7 +70,7 @@ module _ (masks : List ℕ) (q : ℕ) where
   bar-unset p l e = bar-at p l ∙ rw e
 
 -- one in each byte, and so a count in every byte
-abbrev ones : ℕ
+abbrev pub ones : ℕ
 ones = 72340172838076673
 
 packed-all : (e n : ℕ) → e ≤ 127 → n ≤ 8 → Packed (tab 8 (λ _. e)) n (bytes n e)
@@ -74,7 +80,7 @@ packed-all e (suc n) h l =
     let here : count F n ≡ e = tab-at 8 (λ _. e) n 0 (omega arith) in
     rw (add-one n) at (packed-next F n (bytes n e) (packed-all e n h (omega arith)) e refl (omega arith) h here)
 
-all-counts : (e p : ℕ) → e ≤ 127 → p < 8 → count (countsIn (e * ones)) p ≡ e
+pub all-counts : (e p : ℕ) → e ≤ 127 → p < 8 → count (countsIn (e * ones)) p ≡ e
 all-counts e p h l =
     let spread : e * ones ≡ bytes 8 e = omega arith in
     let F = tab 8 (λ _. e) in

@@ -5,7 +5,7 @@ use mathlib.Core.Path.{_≡_, refl, sym, ap, ap₂, _∙_}
 use mathlib.Core.Logic.{⊎-elim}
 use mathlib.Core.Bool.{Bool, true, false, cond, _&&_, _||_, and-true, and-false, and-assoc, or-false}
 use mathlib.Core.List.{[], _∷_}
-use Prim.Native.Nat.{ℕ, zero, suc, _+_, _-_, _*_, _/_, _%_, _≤_, _<_, min, zero-le}
+use Prim.Native.Nat.{ℕ, zero, suc, _+_, _-_, _*_, _/_, _%_, _≤_, _<_, max, min, zero-le}
 use native.Mathlib.Nat.{zero-add}
 use native.Mathlib.Omega.{arith}
 use lib.Bits.{bitAnd, bitOr, and-zero-r, or-zero-r, and-le-l, and-le-r, or-add-and, and-mask, and-high, and-block, or-block}
@@ -16,9 +16,10 @@ use borrow.Author.Tests.{leb-true, leb-false, le-leb, eqb-true, eq-eqb, ne-eqb}
 use Rattle.meaning.specs.Lists.{before}
 use Rattle.meaning.specs.Counting.{Position, count, below}
 use Rattle.meaning.proofs.Tests.{both, both-left, both-right, same-test, cond-cases, ordered-cases, ordered-of}
-use Rattle.meaning.proofs.Steps.{below-at, below-of}
-use Rattle.counts.specs.Cells.{lesserCounts}
+use Rattle.meaning.proofs.Steps.{same-counts, below-at, below-of}
+use Rattle.counts.specs.Cells.{lesserCounts, greaterCounts}
 use Rattle.counts.specs.Words.{countsBefore, countsIn, flags}
+use Rattle.counts.proofs.Lesser.{lesser-length, lesser-at, greater-length, greater-at}
 
 -- eight counts
 countsBefore-length : (n w : ℕ) (rest : Position) → length (countsBefore n w rest) ≡ n + length rest
@@ -59,14 +60,14 @@ bytes-le zero c d h = zero-le
 bytes-le (suc n) c d h = omega (arith, bytes-le n c d h)
 
 -- the bit operations on a last byte and the rest
-and-byte : (a m c : ℕ) → c < 256 → bitAnd a (m * 256 + c) ≡ bitAnd (a / 256) m * 256 + bitAnd (a % 256) c
+pub and-byte : (a m c : ℕ) → c < 256 → bitAnd a (m * 256 + c) ≡ bitAnd (a / 256) m * 256 + bitAnd (a % 256) c
 and-byte a m c h = ap (λ x. bitAnd x (m * 256 + c)) (sym (split a 8)) ∙ and-block 8 (a / 256) m (a % 256) c (omega arith) h
 
 or-byte : (a m c : ℕ) → c < 256 → bitOr a (m * 256 + c) ≡ bitOr (a / 256) m * 256 + bitOr (a % 256) c
 or-byte a m c h = ap (λ x. bitOr x (m * 256 + c)) (sym (split a 8)) ∙ or-block 8 (a / 256) m (a % 256) c (omega arith) h
 
 -- one byte: its count, its top bit, and its top bit set
-and-count : (x : ℕ) → bitAnd x 127 ≡ x % 128
+pub and-count : (x : ℕ) → bitAnd x 127 ≡ x % 128
 and-count x = and-mask x 7
 
 and-top : (x : ℕ) → bitAnd x 128 ≡ x / 128 % 2 * 128
@@ -76,7 +77,7 @@ or-top : (x : ℕ) → x < 256 → bitOr x 128 ≡ 128 + x % 128
 or-top x h = omega (arith, or-add-and x 128, and-top x)
 
 -- the counts of a word alone, and its top bits set, byte by byte
-and-counts : (n a : ℕ) → bitAnd a (bytes (suc n) 127) ≡ bitAnd (a / 256) (bytes n 127) * 256 + a % 128
+pub and-counts : (n a : ℕ) → bitAnd a (bytes (suc n) 127) ≡ bitAnd (a / 256) (bytes n 127) * 256 + a % 128
 and-counts n a = and-byte a (bytes n 127) 127 (omega arith) ∙ omega (arith, and-count (a % 256))
 
 or-tops : (n b : ℕ) → bitOr b (bytes (suc n) 128) ≡ bitOr (b / 256) (bytes n 128) * 256 + (128 + b % 128)
@@ -154,7 +155,7 @@ below-words a b = sym (and-true (eqb (flags 8 a b) (bytes 8 128))) ∙ below-fla
 abbrev pub spread : ℕ → ℕ → ℕ → ℕ
 spread n a b = flags n a b / 128 * 255
 
-flags-whole : (n a b : ℕ) → flags n a b / 128 * 128 ≡ flags n a b
+pub flags-whole : (n a b : ℕ) → flags n a b / 128 * 128 ≡ flags n a b
 unfolding flags
 flags-whole zero a b = refl
 flags-whole (suc n) a b =
@@ -184,39 +185,68 @@ chosen-byte mask c a b h =
     ∙ or-block 8 (bitAnd (a / 256) mask) (b / 256 - bitAnd (b / 256) mask) (bitAnd (a % 256) c) (b % 256 - bitAnd (b % 256) c)
     (omega (arith, and-le-l (a % 256) c)) (omega arith)
 
--- one byte: it is the one with the lesser count
-abbrev lesserByte : ℕ → ℕ → ℕ
-lesserByte a b = chosen (cond (leb (a % 128) (b % 128)) 255 0) (a % 256) (b % 256)
+-- one byte is the one's where the flag is set, and else the other's
+chosen-last : (t : Bool) (x y : ℕ)
+    → (chosen (cond t 255 0) (x % 256) (y % 256) < 256) × (chosen (cond t 255 0) (x % 256) (y % 256) % 128 ≡ cond t (x % 128) (y % 128))
+chosen-last true x y =
+    let e : bitAnd (x % 256) 255 ≡ x % 256 = and-mask (x % 256) 8 ∙ omega arith in
+    let f : y % 256 - bitAnd (y % 256) 255 ≡ 0 = omega (arith, and-mask (y % 256) 8) in
+    rw (e, f, or-zero-r (x % 256)) (omega arith, omega arith)
+chosen-last false x y = rw (and-zero-r (x % 256), and-zero-r (y % 256)) (omega arith, omega arith)
 
-lesser-byte : (a b : ℕ) → (lesserByte a b < 256) × (lesserByte a b % 128 ≡ min (a % 128) (b % 128))
-lesser-byte a b =
-    cond-cases (leb (a % 128) (b % 128)) 255 0
-    (λ c. (chosen c (a % 256) (b % 256) < 256) × (chosen c (a % 256) (b % 256) % 128 ≡ min (a % 128) (b % 128)))
-    (λ t. let l : a % 128 ≤ b % 128 = leb-true (a % 128) (b % 128) t in
-    let e : bitAnd (a % 256) 255 ≡ a % 256 = and-mask (a % 256) 8 ∙ omega arith in
-    let f : b % 256 - bitAnd (b % 256) 255 ≡ 0 = omega (arith, and-mask (b % 256) 8) in
-    rw (e, f, or-zero-r (a % 256)) (omega arith, omega arith))
-    (λ t. let l : b % 128 < a % 128 = leb-false (a % 128) (b % 128) t in
-    rw (and-zero-r (a % 256), and-zero-r (b % 256)) (omega arith, omega arith))
+-- so each count is the one's where that of a is at most that of b, and else the other's
+abbrev oneOf : ℕ → ℕ → ℕ → ℕ → ℕ
+oneOf c d x y = cond (leb c d) x y
 
-lesser-chosen : (n a b : ℕ) (r s : Position)
-    → countsBefore n (chosen (spread n a b) a b) (lesserCounts r s) ≡ lesserCounts (countsBefore n a r) (countsBefore n b s)
-unfolding countsBefore lesserCounts
-lesser-chosen zero a b r s = refl
-lesser-chosen (suc n) a b r s =
+chosen-before : (n a b x y : ℕ) (F G X Y H : Position)
+    → ((q : ℕ) → count H q ≡ oneOf (count F q) (count G q) (count X q) (count Y q))
+    → (q : ℕ) → count (countsBefore n (chosen (spread n a b) x y) H) q
+    ≡ oneOf (count (countsBefore n a F) q) (count (countsBefore n b G) q) (count (countsBefore n x X) q) (count (countsBefore n y Y) q)
+unfolding countsBefore
+chosen-before zero a b x y F G X Y H h q = h q
+chosen-before (suc n) a b x y F G X Y H h q =
+    let t = leb (a % 128) (b % 128) in
     let rest = spread n (a / 256) (b / 256) in
-    let small : cond (leb (a % 128) (b % 128)) 255 0 < 256 =
-    cond-cases (leb (a % 128) (b % 128)) 255 0 (λ c. c < 256) (λ _. omega arith) (λ _. omega arith) in
-    ap (λ mask. countsBefore (suc n) (chosen mask a b) (lesserCounts r s)) (spread-next n a b)
-    ∙ ap (λ w. countsBefore (suc n) w (lesserCounts r s)) (chosen-byte rest (cond (leb (a % 128) (b % 128)) 255 0) a b small)
-    ∙ last-count n (chosen rest (a / 256) (b / 256)) (lesserByte a b) (lesserCounts r s) (lesser-byte a b .0)
-    ∙ ap (λ c. countsBefore n (chosen rest (a / 256) (b / 256)) (c ∷ lesserCounts r s)) (lesser-byte a b .1)
-    ∙ lesser-chosen n (a / 256) (b / 256) (a % 128 ∷ r) (b % 128 ∷ s)
+    let c = chosen (cond t 255 0) (x % 256) (y % 256) in
+    let small : cond t 255 0 < 256 = cond-cases t 255 0 (λ m. m < 256) (λ _. omega arith) (λ _. omega arith) in
+    ap (λ mask. count (countsBefore (suc n) (chosen mask x y) H) q) (spread-next n a b)
+    ∙ ap (λ w. count (countsBefore (suc n) w H) q) (chosen-byte rest (cond t 255 0) x y small)
+    ∙ ap (λ (L : Position). count L q) (last-count n (chosen rest (x / 256) (y / 256)) c H (chosen-last t x y .0))
+    ∙ chosen-before n (a / 256) (b / 256) (x / 256) (y / 256) (a % 128 ∷ F) (b % 128 ∷ G) (x % 128 ∷ X) (y % 128 ∷ Y) (c % 128 ∷ H) go q
+  where
+    go : (q : ℕ) → count (chosen (cond (leb (a % 128) (b % 128)) 255 0) (x % 256) (y % 256) % 128 ∷ H) q
+        ≡ oneOf (count (a % 128 ∷ F) q) (count (b % 128 ∷ G) q) (count (x % 128 ∷ X) q) (count (y % 128 ∷ Y) q)
+    go zero = chosen-last (leb (a % 128) (b % 128)) x y .1
+    go (suc q) = h q
 
--- so the word chosen has the lesser counts
+chosen-counts : (a b x y q : ℕ) → count (countsIn (chosen (spread 8 a b) x y)) q
+    ≡ oneOf (count (countsIn a) q) (count (countsIn b) q) (count (countsIn x) q) (count (countsIn y) q)
+unfolding countsIn
+chosen-counts a b x y q = chosen-before 8 a b x y [] [] [] [] [] (λ _. refl) q
+
+-- so the word chosen has the lesser counts, or the greater
 pub lesser-words : (a b : ℕ) → countsIn (chosen (spread 8 a b) a b) ≡ lesserCounts (countsIn a) (countsIn b)
-unfolding countsIn lesserCounts
-lesser-words a b = lesser-chosen 8 a b [] []
+lesser-words a b =
+    let F = countsIn a in
+    let G = countsIn b in
+    same-counts (countsIn (chosen (spread 8 a b) a b)) (lesserCounts F G)
+    (countsIn-length _ ∙ sym (countsIn-length a) ∙ sym (lesser-length F G))
+    (λ q _. chosen-counts a b a b q ∙ least (count F q) (count G q) ∙ sym (lesser-at F G q))
+  where
+    least : (c d : ℕ) → oneOf c d c d ≡ min c d
+    least c d = cond-cases (leb c d) c d (λ x. x ≡ min c d) (λ t. omega (arith, leb-true c d t)) (λ t. omega (arith, leb-false c d t))
+
+pub greater-words : (a b : ℕ) → countsIn (chosen (spread 8 a b) b a) ≡ greaterCounts (countsIn a) (countsIn b)
+greater-words a b =
+    let F = countsIn a in
+    let G = countsIn b in
+    let same : length F ≡ length G = countsIn-length a ∙ sym (countsIn-length b) in
+    same-counts (countsIn (chosen (spread 8 a b) b a)) (greaterCounts F G)
+    (countsIn-length _ ∙ sym (countsIn-length a) ∙ sym (greater-length F G))
+    (λ q _. chosen-counts a b b a q ∙ most (count F q) (count G q) ∙ sym (greater-at F G same q))
+  where
+    most : (c d : ℕ) → oneOf c d d c ≡ max c d
+    most c d = cond-cases (leb c d) d c (λ x. x ≡ max c d) (λ t. omega (arith, leb-true c d t)) (λ t. omega (arith, leb-false c d t))
 
 -- one count and the rest decide the order: the rest first, since it stands in the higher bytes
 higher-first : (x y c d : ℕ) (t : Bool) → c < 256 → d < 256

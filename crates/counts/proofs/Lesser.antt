@@ -1,8 +1,8 @@
--- The lesser counts of two positions are the highest position below both, and widening to eight counts keeps them. Each is read off count
--- by count. Assumes nothing.
+-- The lesser counts of two positions are the highest position below both, and widening to eight counts keeps them; and what the greater
+-- counts are. Each is read off count by count. Assumes nothing.
 use mathlib.Core.Path.{_≡_, sym, _∙_}
 use mathlib.Core.Bool.{true}
-use Prim.Native.Nat.{ℕ, _≤_, _<_, min}
+use Prim.Native.Nat.{ℕ, _≤_, _<_, max, min}
 use native.Mathlib.Decide.{decLt}
 use native.Mathlib.Omega.{arith}
 use lib.ListN.{length}
@@ -10,7 +10,7 @@ use Rattle.meaning.specs.Counting.{Position, count, below}
 use Rattle.meaning.specs.Written.{positionBytes}
 use Rattle.meaning.proofs.Lists.{tab-length, tab-at, tab-beyond}
 use Rattle.meaning.proofs.Steps.{count-beyond, same-counts, below-at, below-of, below-trans}
-use Rattle.counts.specs.Cells.{lesserCounts}
+use Rattle.counts.specs.Cells.{lesserCounts, greaterCounts}
 use Rattle.counts.proofs.Wide.{wide-at, wide-length}
 
 -- lesser counts
@@ -55,3 +55,19 @@ wide-lesser F G =
       wide-at F q k,
       wide-at G q k,
     ))
+
+-- greater counts
+pub greater-length : (F G : Position) → length (greaterCounts F G) ≡ length F
+unfolding greaterCounts
+greater-length F G = tab-length (length F) _
+
+pub greater-at : (F G : Position) → length F ≡ length G → (q : ℕ) → count (greaterCounts F G) q ≡ max (count F q) (count G q)
+unfolding greaterCounts
+greater-at F G same q = go (decLt q (length F))
+  where
+    go : Dec (q < length F) → count (greaterCounts F G) q ≡ max (count F q) (count G q)
+    go (yes l) = tab-at (length F) _ q 0 l
+    go (no l) =
+        let h : length F ≤ q = omega arith in
+        let k : length G ≤ q = omega arith in
+        omega (arith, tab-beyond (length F) (λ i. max (count F i) (count G i)) q 0 h, count-beyond F q h, count-beyond G q k)

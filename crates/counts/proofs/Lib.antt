@@ -8,3 +8,5 @@ pub mod Lesser
 pub mod Bytes
 pub mod Packing
 pub mod Bars
+pub mod Charging
+pub mod Spreads

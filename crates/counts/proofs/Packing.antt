@@ -1,20 +1,30 @@
 -- A position packed into a word count by count, and taken out of it again: each step moves one byte, so what is packed so far and what is
 -- left say the whole position. By the law of a word's last byte (Bytes.antt). Assumes nothing.
 use mathlib.Core.Path.{_≡_, refl, sym, ap, ap₂, _∙_}
+use mathlib.Core.Bool.{true}
 use mathlib.Core.List.{List, [], _∷_}
 use Prim.Native.Nat.{ℕ, suc, _+_, _-_, _*_, _/_, _%_, _^_, _≤_, _<_, zero-le}
 use native.Mathlib.Nat.{pow-suc, pow-le-pow-right}
 use native.Mathlib.Numerals.{add-one}
 use native.Mathlib.Omega.{arith}
+use borrow.Author.Tests.{le-leb}
+use lib.Dec.{leb}
 use lib.IntN.{ℤ, pos}
 use lib.ListN.{length, set, drop, drop-of-length-le, length-drop}
 use lib.Seq.{drop-cons, getD-drop, getD-set-same, getD-set-other}
+use Rattle.meaning.specs.Lists.{every}
 use Rattle.meaning.specs.Counting.{Position, oneHigher, count}
+use Rattle.meaning.proofs.Tests.{both}
 use Rattle.meaning.proofs.Steps.{same-counts}
 use Rattle.counts.specs.Cells.{cells}
 use Rattle.counts.proofs.Cells.{cells-length, cells-at}
 use Rattle.counts.specs.Words.{countsBefore, countsIn}
 use Rattle.counts.proofs.Bytes.{last-count}
+
+-- counts that have room in a byte
+pub low-counts : (F : Position) → ((q : ℕ) → count F q ≤ 127) → every (λ c. leb c 127) F ≡ true
+low-counts [] h = refl
+low-counts (c ∷ F) h = both (leb c 127) (every (λ d. leb d 127) F) (le-leb c 127 (h 0)) (low-counts F (λ q. h (suc q)))
 
 -- a word that the first q counts of a position are packed in
 pub record Packed (F : Position) (q word : ℕ) : Type 0 where

@@ -1,7 +1,7 @@
 -- How positions and halves of a round stand in code: eight signed counts, and a byte of targets for each state.
 use mathlib.Core.Bool.{Bool, cond, _&&_}
 use mathlib.Core.List.{List}
-use Prim.Native.Nat.{ℕ, _-_, min}
+use Prim.Native.Nat.{ℕ, _-_, max, min}
 use lib.ListN.{length, getD}
 use lib.IntN.{ℤ, pos}
 use Rattle.meaning.specs.Lists.{tab, smallest}
@@ -21,6 +21,10 @@ cells m = tab 8 (cell m)
 -- the lesser counts of two positions
 unfoldable pub lesserCounts : Position → Position → Position
 lesserCounts F G = tab (length F) (λ q. min (count F q) (count G q))
+
+-- and the greater
+unfoldable pub greaterCounts : Position → Position → Position
+greaterCounts F G = tab (length F) (λ q. max (count F q) (count G q))
 
 -- the step back where safety allows each source its count in `most`, and no more
 unfoldable pub backUnder : Position → T.Half → Position → Position

@@ -4,12 +4,13 @@ use crate::count;
 use crate::position::Half;
 ghost use mathlib.Core.Path.{_≡_};
 ghost use mathlib.Core.Bool.{true};
-ghost use Prim.Native.Nat.{_<_};
+ghost use Prim.Native.Nat.{_≤_, _<_};
 ghost use lib.Dec.{leb};
 ghost use Rattle.meaning.specs.Lists.{before as beforeBytes, every};
-ghost use Rattle.meaning.specs.Counting.{below as belowAll};
-ghost use Rattle.counts.specs.Cells.{cells, lesserCounts, halfOf, backUnder};
+ghost use Rattle.meaning.specs.Counting.{safe as safeAt, below as belowAll};
+ghost use Rattle.counts.specs.Cells.{cells, lesserCounts, greaterCounts, halfOf, backUnder};
 ghost use Rattle.counts.specs.Words.{countsIn, flags, barCounts, BarsOf};
+ghost use Rattle.counts.specs.Words.{spreadCounts, SpreadsOf, markCounts, Charged, SteppedForward};
 
 // The top bit of each byte, and the bits below it.
 const TOPS: u64 = 0x8080_8080_8080_8080;
@@ -71,6 +72,22 @@ pub fn lesser(a: u64, b: u64) -> u64
     (a & mask) | (b - (b & mask))
 }
 
+// The greater counts of two positions: the other's bytes where the one's count is at most its own.
+pub fn greater(a: u64, b: u64) -> u64
+    ensures { λ r. ⌜ countsIn r ≡ greaterCounts (countsIn a) (countsIn b) ⌝ }
+{
+    let mask = at_most(a, b) / 128 * 255;
+    (b & mask) | (a - (a & mask))
+}
+
+// Whether no count exceeds k.
+pub fn safe(word: u64, k: usize) -> bool
+    requires { ⌜ k ≤ 7 ⌝ }
+    ensures { λ r. ⌜ r ≡ safeAt k (countsIn word) ⌝ }
+{
+    below(word, (k as u64 + 1) * ONES)
+}
+
 // Whether one position comes before another, ascending as byte strings.
 pub fn before(a: u64, b: u64) -> bool
     ensures { λ r. ⌜ r ≡ beforeBytes (countsIn a) (countsIn b) ⌝ }
@@ -128,4 +145,78 @@ pub fn back(m: &[i8; 8], half: Half, bars: &[u64; 8], most: u64) -> u64
         q += 1;
     }
     low
+}
+
+// For one source's byte of targets: the highest count at each of them, and none elsewhere.
+fn spread(mask: u8) -> u64
+    ensures { λ r. ⌜ countsIn r ≡ spreadCounts mask ⌝ }
+{
+    let mut word = 0u64;
+    let mut q = 0;
+    while q < 8 {
+        word = word * 256;
+        if masks::has(mask, q) {
+            word += 127;
+        }
+        q += 1;
+    }
+    word
+}
+
+// The spreads of a table's bytes of targets.
+pub fn spreads(targets: [u8; 64]) -> [u64; 64]
+    ensures { λ r. ⌜ SpreadsOf targets r ⌝ }
+{
+    let mut out = [0u64; 64];
+    let mut i = 0;
+    while i < 64 {
+        out[i] = spread(targets[i]);
+        i += 1;
+    }
+    out
+}
+
+// Eight marks in a word, where each is at most 100.
+pub fn marks(marks: [u8; 8]) -> u64
+    ensures { λ r. ⌜ countsIn r ≡ markCounts marks ⌝ }
+{
+    let mut word = 0u64;
+    let mut q = 0;
+    while q < 8 {
+        let mark = marks[q];
+        word = word * 256 + if mark < 100 { mark as u64 } else { 100 };
+        q += 1;
+    }
+    word
+}
+
+// Charges each count with its state's mark: no run stays none, and an overrun stops at k + 2.
+fn charged(most: u64, marks: u64, k: usize) -> u64
+    requires { ⌜ k ≤ 7 ⌝ }
+    ensures { λ r. ⌜ Charged k marks most r ⌝ }
+{
+    let top = (k as u64 + 2) * ONES;
+    // no higher than the top, so that a byte has room for its mark
+    let low = lesser(most, top);
+    let present = at_most(ONES, low) / 128 * 127;
+    lesser((low & COUNTS) + (marks & present), top)
+}
+
+// The step forward by a letter: to each target the largest count that its sources bring, all of
+// them at once. Past the eighth letter there are no edges.
+pub fn forward(word: u64, spreads: &[u64; 64], letter: usize, marks: u64, k: usize) -> u64
+    requires { ⌜ k ≤ 7 ⌝ }
+    ensures { λ r. ⌜ SteppedForward (now (spreads .entry)) letter marks k word r ⌝ }
+{
+    if 8 <= letter {
+        return 0;
+    }
+    let mut most = 0u64;
+    let mut p = 0;
+    while p < 8 {
+        let all = (word >> (56 - 8 * p)) % 128 * ONES;
+        most = greater(most, spreads[letter * 8 + p] & all);
+        p += 1;
+    }
+    charged(most, marks, k)
 }

@@ -3,22 +3,21 @@
 use mathlib.Core.Path.{_≡_, refl}
 use mathlib.Core.Logic.{⊎-elim}
 use mathlib.Core.Bool.{true}
-use mathlib.Core.List.{List, [], _∷_, _++_, map, Memᴰ·of-map, List·Memᴰ, List·Memᴰ·append-cases, List·Memᴰ·not-nil}
+use mathlib.Core.List.{List, _++_, map, Memᴰ·of-map, List·Memᴰ, List·Memᴰ·append-cases, List·Memᴰ·not-nil}
 use mathlib.Core.List.{List·Memᴰ·eq-of-singleton}
 use Prim.Native.Nat.{ℕ, zero, suc, _+_, _≤_, _<_}
 use native.Mathlib.Decide.{decLt}
 use native.Mathlib.Omega.{arith}
-use borrow.Author.Tests.{le-leb}
 use lib.Dec.{leb}
 use Rattle.meaning.specs.Lists.{every}
 use Rattle.meaning.specs.Table.{Half, Table, onOutput, onInput}
 use Rattle.meaning.specs.Counting.{Position, count, back}
 use Rattle.meaning.specs.Written.{positionBytes}
-use Rattle.meaning.proofs.Tests.{both}
 use Rattle.meaning.proofs.Steps.{count-beyond, safe-at, back-safe}
 use Rattle.meaning.proofs.Positions.{allSafe-safe}
 use Rattle.counts.proofs.Wide.{wide-at, wide-length}
 use Rattle.counts.proofs.Lesser.{lesser-at}
+use Rattle.counts.proofs.Packing.{low-counts}
 use Rattle.lists.specs.Members.{Low}
 use Rattle.lists.proofs.Members.{Sized}
 use Rattle.tops.specs.Tops.{tops, meets}
@@ -35,10 +34,6 @@ pub record Ready (K : ℕ) (l : List Position) : Type 0 where
   pub few : (F : Position) → List·Memᴰ F l → (q : ℕ) → count F q ≤ K + 1
 
 -- so its counts have room in a byte below its top bit
-low-counts : (F : Position) → ((q : ℕ) → count F q ≤ 127) → every (λ c. leb c 127) F ≡ true
-low-counts [] h = refl
-low-counts (c ∷ F) h = both (leb c 127) (every (λ d. leb d 127) F) (le-leb c 127 (h 0)) (low-counts F (λ q. h (suc q)))
-
 pub ready-low : (K : ℕ) (l : List Position) → K ≤ 7 → Ready K l → Low l
 ready-low K l h r F m = low-counts F (λ q. omega (arith, r .few F m q))
 

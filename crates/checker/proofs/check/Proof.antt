@@ -163,8 +163,9 @@ verdict-on-requires c κs = search needs
 returns-6 : tie.Need-returns-6
 returns-6 c =
     let kept = c .before in
-    let all = followable (kept .before) in
-    let told = kept .before .before .before .before .before .before .before .before .before in
+    let level = kept .before in
+    let all = followable level in
+    let told = level .before .before .before .before .before .before .before .before in
     found-verdict (bytes told) (start told .args .k) (now (start told .args .rows)) (patient told) (passes told) (all .formed) (all .outputs)
     (all .inputs) (kept .keeps .result) (rw (same-table told) at (kept .keeps .ensures)) (c .verdict-on .ensures)
 

@@ -1,5 +1,5 @@
--- `keeps` visits a flagged state until there is none. The loop's invariant is `Tracks`; with each visit the room for the counts to rise falls,
--- or with the same room the number of flags. Assumes nothing.
+-- `keeps` makes the words of the table's steps, and visits a flagged state until there is none. The loop's invariant is `Tracks`; with each
+-- visit the room for the counts to rise falls, or with the same room the number of flags. Assumes nothing.
 use mathlib.Core.Path.{_≡_, refl, sym, ap, _∙_}
 use mathlib.Core.Bool.{true, false, true≢false}
 use Prim.Native.Nat.{ℕ, _<_}
@@ -7,49 +7,76 @@ use native.Mathlib.Omega.{arith}
 use borrow.Author.Needs.{needs}
 use borrow.Author.Tests.{not-true, not-false}
 use denote.Ref.{now}
-use lib.ListN.{length, length-set}
+use lib.ListN.{length, set, length-set}
 use Rattle.meaning.specs.Counting.{startPosition}
 use Rattle.meaning.specs.Written.{positionBytes, Row}
 use Rattle.meaning.specs.Play.{rowsIn}
 use Rattle.meaning.proofs.Formed.{first-has}
-use Rattle.counts.specs.Cells.{cells, startCounts}
+use Rattle.counts.specs.Cells.{startCounts}
+use Rattle.counts.specs.Words.{countsIn}
 use Rattle.table.specs.Packed.{tableIn}
-use Rattle.checker.specs.Raised.{flagAt}
-use Rattle.checker.specs.Visited.{ForAll}
+use Rattle.checker.specs.Raised.{countsAt, flagAt}
+use Rattle.checker.specs.Visited.{ForAll, Visited, Overruns, Steps}
 use Rattle.checker.proofs.Room.{ahead, visit-less}
-use Rattle.checker.proofs.Tracks.{fitting, flag-up, no-flag, Tracks, arrays-start, tracks-start, tracks-visit, tracks-overrun, tracks-end}
+use Rattle.checker.proofs.Stated.{steps-stated}
+use Rattle.checker.proofs.Visiting.{inputs-read}
+use Rattle.checker.proofs.Tracks.{fitting, start-low, flag-up, no-flag, Tracks, arrays-start, tracks-start, tracks-visit}
+use Rattle.checker.proofs.Tracks.{tracks-overrun, tracks-end}
 use Rattle.checker.proofs.keep.keeps.Statement.{statement}
 use Rattle.checker.proofs.keep.keeps.Tie as tie
 
 abbrev Inv-loop : tie.InvT-loop
-Inv-loop table k rows places first most₀ risen₀ most risen = ForAll most risen × Tracks k (tableIn table) (rowsIn rows) most risen
+Inv-loop table k rows places first out-spreads out-marks in-spreads in-marks most₀ risen₀ most risen =
+    ForAll most risen × Tracks k (tableIn table) (rowsIn rows) most risen
 
 abbrev μ-loop : tie.MeasureT-loop
-μ-loop table k rows places first most₀ risen₀ most risen = ahead k most risen
+μ-loop table k rows places first out-spreads out-marks in-spreads in-marks most₀ risen₀ most risen = ahead k most risen
+
+-- the places on the way to the loop: the outputs' words made, the first row read, and the call
+abbrev outs : tie.After-start Inv-loop μ-loop → tie.After-spreads Inv-loop μ-loop
+outs c = c .before .before .before .before
+
+abbrev row : tie.After-start Inv-loop μ-loop → tie.After-at Inv-loop μ-loop
+row c = outs c .before .before .before .before .before .before
+
+abbrev begin : tie.After-start Inv-loop μ-loop → tie.Start Inv-loop μ-loop
+begin c = row c .before .before .before
+
+abbrev made : tie.After-pack Inv-loop μ-loop → tie.After-start Inv-loop μ-loop
+made c = c .before .before
 
 -- the start position, in eight counts
-begun : (c : tie.After-start Inv-loop μ-loop) →
-    let args = c .before .before .before .before .before .args in
-    cells (c .start .result) ≡ positionBytes (startPosition (args .k) (tableIn (args .table)))
+begun : (c : tie.After-pack Inv-loop μ-loop) →
+    let args = begin (made c) .args in
+    countsIn (c .pack .result) ≡ positionBytes (startPosition (args .k) (tableIn (args .table)))
 unfolding tableIn startPosition startCounts
-begun c = c .start .ensures
+begun c = c .pack .ensures ∙ made c .start .ensures
+
+-- and the table's steps, in words
+steps : (c : tie.After-start Inv-loop μ-loop) →
+    Steps (tableIn (begin c .args .table)) (outs c .spreads .result) (c .before .before .before .marks .result)
+    (c .before .before .spreads2 .result) (c .before .marks2 .result)
+steps c =
+    let start = begin c in
+    steps-stated (start .args .k) (start .args .table) (now (start .args .rows)) (start .pre) _ _ _ _ (outs c .spreads .ensures)
+    (c .before .before .before .marks .ensures) (c .before .before .spreads2 .ensures) (c .before .marks2 .ensures)
 
 -- the state that a turn visits
 module _ (c : tie.After-visit Inv-loop μ-loop) where
   abbrev asked : tie.After-first-risen Inv-loop μ-loop
-  asked = c .before .before .before .before .before
+  asked = c .before .before .before .before .before .before .before
 
   abbrev at : tie.At-loop Inv-loop μ-loop
   at = asked .before .before
 
   abbrev start : tie.Start Inv-loop μ-loop
-  start = at .before .before .before .before .before .before
+  start = begin (made (at .before))
 
   abbrev state : ℕ
   state = asked .first-risen .result
 
   low : state < 256
-  low = c .before .before .before .before .if1 .left
+  low = c .before .before .before .before .before .before .if1 .left
 
   flag : flagAt (at .loop .risen) state ≡ true
   flag = flag-up (at .loop .risen) state (asked .first-risen .ensures) (at .loop .inv .0 .flags) low
@@ -57,12 +84,20 @@ module _ (c : tie.After-visit Inv-loop μ-loop) where
   inside : state < length (at .loop .risen)
   inside = omega (arith, at .loop .inv .0 .flags, low)
 
-  arrays : ForAll (c .visit .last .1 .1 .1 .1 .1 .0) (c .visit .last .1 .1 .1 .1 .1 .1 .0)
+  arrays : ForAll (c .visit .last .1 .1 .1 .1 .1 .1 .1 .1 .1 .0) (c .visit .last .1 .1 .1 .1 .1 .1 .1 .1 .1 .1 .0)
   arrays =
       record {
-        counts = c .visit .kept .1 .1 .1 .1 .1 .0 ∙ at .loop .inv .0 .counts;
-        flags = c .visit .kept .1 .1 .1 .1 .1 .1 .0 ∙ length-set (at .loop .risen) state false ∙ at .loop .inv .0 .flags;
+        counts = c .visit .kept .1 .1 .1 .1 .1 .1 .1 .1 .1 .0 ∙ at .loop .inv .0 .counts;
+        flags = c .visit .kept .1 .1 .1 .1 .1 .1 .1 .1 .1 .1 .0 ∙ length-set (at .loop .risen) state false ∙ at .loop .inv .0 .flags;
       }
+
+  -- what the visit tells of the table
+  visited : (c .visit .result ≡ true → Visited (start .args .k) (tableIn (start .args .table)) (rowsIn (now (start .args .rows))) state
+      (at .loop .most) (set (at .loop .risen) state false) (c .visit .last .1 .1 .1 .1 .1 .1 .1 .1 .1 .0)
+      (c .visit .last .1 .1 .1 .1 .1 .1 .1 .1 .1 .1 .0))
+      × (c .visit .result ≡ false → Overruns (start .args .k) (tableIn (start .args .table)) (rowsIn (now (start .args .rows))) state
+      (countsAt (at .loop .most) state))
+  visited = c .visit .ensures (tableIn (start .args .table)) (start .pre) (steps (made (at .before)))
 
 places-requires : tie.Need-places-requires Inv-loop μ-loop
 places-requires c κs = fitting (c .before .pre) .formed .few
@@ -73,29 +108,47 @@ at-requires c κs = search needs
 cast-first : tie.Need-cast-first Inv-loop μ-loop
 cast-first c = search needs
 
+spreads-requires : tie.Need-spreads-requires Inv-loop μ-loop
+spreads-requires c κs = search needs
+
+marks-requires : tie.Need-marks-requires Inv-loop μ-loop
+marks-requires c κs = search needs
+
+spreads-requires-2 : tie.Need-spreads-requires-2 Inv-loop μ-loop
+spreads-requires-2 c κs = search needs
+
+marks-requires-2 : tie.Need-marks-requires-2 Inv-loop μ-loop
+marks-requires-2 c κs = search needs
+
 start-requires : tie.Need-start-requires Inv-loop μ-loop
 start-requires c κs = search needs
+
+pack-requires : tie.Need-pack-requires Inv-loop μ-loop
+unfolding tableIn startPosition startCounts
+pack-requires c κs =
+    let first = begin (c .before) in
+    rw (c .before .start .ensures) (start-low (first .args .k) (tableIn (first .args .table)) (first .pre .bounded .small .controllers))
 
 mul-most : tie.Need-mul-most Inv-loop μ-loop
 mul-most c = search needs
 
-array-set-from-most : tie.Need-array-set-from-most Inv-loop μ-loop
-array-set-from-most c = search needs
+array-write-most : tie.Need-array-write-most Inv-loop μ-loop
+array-write-most c = search needs
 
 array-write-risen : tie.Need-array-write-risen Inv-loop μ-loop
 array-write-risen c = search needs
 
 loop-holds : tie.Need-loop-holds Inv-loop μ-loop
 loop-holds c =
-    let start = c .before .before .before .before .before in
-    let first = c .before .before .at in
+    let start = begin (made c) in
+    let first = row (made c) .at in
     let t = tableIn (start .args .table) in
     let rows = rowsIn (now (start .args .rows)) in
     let is-first = ap (λ (r : Row). r .state) (first .ensures) in
     let has = first-has rows (fitting (start .pre) .formed) in
     let few = start .pre .bounded .small .controllers in (
-      arrays-start (start .args .k) t rows few (first .result .state) is-first (omega (arith, first .ok)) (c .start .result) (begun c) has,
-      tracks-start (start .args .k) t rows few (first .result .state) is-first (omega (arith, first .ok)) (c .start .result) (begun c) has,
+      arrays-start (start .args .k) t rows few (first .result .state) is-first (omega (arith, first .ok)) (c .pack .result) (begun c) has,
+      tracks-start (start .args .k) t rows few (first .result .state) is-first (omega (arith, first .ok)) (c .pack .result) (begun c) has,
     )
 
 slice-aggregate-first-risen : tie.Need-slice-aggregate-first-risen Inv-loop μ-loop
@@ -108,8 +161,9 @@ returns : tie.Need-returns Inv-loop μ-loop
 returns c =
     let asked = c .before in
     let at = asked .before .before in
-    let start = at .before .before .before .before .before .before in
-    let none = no-flag (at .loop .risen) (asked .first-risen .result) (asked .first-risen .ensures) (at .loop .inv .0 .flags) (c .if1 .taken) in (
+    let start = begin (made (at .before)) in
+    let none
+    = no-flag (at .loop .risen) (asked .first-risen .result) (asked .first-risen .ensures) (at .loop .inv .0 .flags) (c .if1 .taken) in (
       λ _. tracks-end (start .args .k) (tableIn (start .args .table)) (rowsIn (now (start .args .rows))) (at .loop .most) (at .loop .risen)
           (at .loop .inv .1) (start .pre .good) (start .pre .declared) (fitting (start .pre)) none,
       λ _. refl,
@@ -126,19 +180,20 @@ slice-aggregate-visit-2 c = search needs
 
 visit-requires : tie.Need-visit-requires Inv-loop μ-loop
 visit-requires c κs =
-    let asked = c .before .before .before .before in
+    let asked = c .before .before .before .before .before .before in
     let at = asked .before .before in
-    let start = at .before .before .before .before .before .before in
+    let start = begin (made (at .before)) in
     let s = asked .first-risen .result in
-    let low = c .before .before .before .if1 .left in
+    let low = c .before .before .before .before .before .if1 .left in
     let flag = flag-up (at .loop .risen) s (asked .first-risen .ensures) (at .loop .inv .0 .flags) low in (
       (
-        start .pre,
+        start .pre .bounded .patience,
         record {
           formed = start .pre .formed;
-          placed = at .before .before .before .before .places .ensures;
+          placed = row (made (at .before)) .before .places .ensures;
           has = at .loop .inv .1 .named s flag;
         },
+        sym (start .pre .inputs ∙ inputs-read (start .args .table)),
       ),
       (
         record { counts = at .loop .inv .0 .counts; flags = length-set (at .loop .risen) s false ∙ at .loop .inv .0 .flags },
@@ -153,14 +208,14 @@ returns-2 c =
       λ e. absurd (true≢false (sym e)),
       λ realizes. absurd (tracks-overrun (begin .args .k) (tableIn (begin .args .table)) (rowsIn (now (begin .args .rows)))
           (at called .loop .most) (at called .loop .risen) (at called .loop .inv .1) (state called)
-          (called .visit .ensures .1 (not-true _ (c .if2 .taken))) realizes),
+          (visited called .1 (not-true _ (c .if2 .taken))) realizes),
     )
 
 loop-less : tie.Need-loop-less Inv-loop μ-loop
 loop-less c =
     let called = c .before .before .before in
     visit-less (start called .args .k) (at called .loop .most) _ (at called .loop .risen) _ (state called) (inside called) (flag called)
-    (arrays called .flags) (called .visit .ensures .0 (not-false _ (c .if2 .left)) .rises)
+    (arrays called .flags) (visited called .0 (not-false _ (c .if2 .left)) .rises)
 
 loop-again : tie.Need-loop-again Inv-loop μ-loop
 loop-again c =
@@ -169,7 +224,7 @@ loop-again c =
       arrays called,
       tracks-visit (begin .args .k) (tableIn (begin .args .table)) (rowsIn (now (begin .args .rows))) (at called .loop .most)
           (at called .loop .risen) (at called .loop .inv .1) (fitting (begin .pre)) (state called) (inside called) (flag called) _ _
-          (called .visit .ensures .0 (not-false _ (c .if2 .left))),
+          (visited called .0 (not-false _ (c .if2 .left))),
     )
 
 pub keeps-spec : {M : Type 1} → statement M
@@ -181,9 +236,14 @@ keeps-spec =
     places-requires
     at-requires
     cast-first
+    spreads-requires
+    marks-requires
+    spreads-requires-2
+    marks-requires-2
     start-requires
+    pack-requires
     mul-most
-    array-set-from-most
+    array-write-most
     array-write-risen
     loop-holds
     slice-aggregate-first-risen

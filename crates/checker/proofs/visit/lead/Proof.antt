@@ -1,5 +1,5 @@
--- `lead`: the step in eight counts stands for the definition's, so it is safe if that is, and raises the next state's counts to it.
--- Assumes nothing.
+-- `lead`: the step in words stands for that of the half of a round they state, so it is safe if that is, and raises the next state's counts
+-- to it. Assumes nothing.
 use borrow.Author.Needs.{needs}
 use mathlib.Core.Path.{_≡_, sym, ap, _∙_}
 use mathlib.Core.Bool.{Bool, true≢false}
@@ -7,46 +7,31 @@ use Prim.Native.Nat.{_≤_}
 use borrow.Author.Tests.{not-true, not-false}
 use denote.Ref.{now}
 use lib.ListN.{length}
-use Rattle.meaning.specs.Table.{Half, onInput}
-use Rattle.meaning.specs.Counting.{forward, safe}
-use Rattle.meaning.specs.Written.{positionBytes}
+use Rattle.meaning.specs.Table.{Half}
+use Rattle.meaning.specs.Counting.{Position, forward, safe}
 use Rattle.meaning.proofs.Steps.{forward-length}
-use Rattle.counts.specs.Cells.{cells}
-use Rattle.table.specs.Packed.{tableIn}
+use Rattle.counts.specs.Words.{countsIn, StatedIn}
 use Rattle.checker.proofs.Counts.{safe-wide}
 use Rattle.checker.proofs.Raising.{raised-wide}
 use Rattle.checker.proofs.visit.lead.Statement.{statement}
 use Rattle.checker.proofs.visit.lead.Tie as tie
 
--- the position after the step, in eight counts, and that it has no more
-stepped : (c : tie.After-forward) →
-    let args = c .before .before .before .args in
-    cells (c .forward .result)
-    ≡ positionBytes (forward (args .k) (onInput (tableIn (args .table)) (args .input)) (cells (now (args .middle))))
-stepped c =
-    let args = c .before .before .before .args in
-    c .forward .ensures
-    ∙ ap (λ (h : Half). positionBytes (forward (args .k) h (cells (now (args .middle))))) (c .before .on-input .ensures)
+abbrev start : tie.After-forward → tie.Start
+start c = c .before .before .before
 
-few : (c : tie.After-forward) →
-    let args = c .before .before .before .args in
-    length (forward (args .k) (onInput (tableIn (args .table)) (args .input)) (cells (now (args .middle)))) ≤ 8
-few c =
-    let start = c .before .before .before in
-    rw (forward-length (start .args .k) (onInput (tableIn (start .args .table)) (start .args .input)) (cells (now (start .args .middle))))
-    (start .pre .0 .small .controllers)
+-- for a half of a round that the words state
+module _ (c : tie.After-forward) (h : Half)
+    (stated : StatedIn (now (start c .args .spreads)) (start c .args .input) (start c .args .marks) h) (small : h .targets ≤ 8) where
+  -- the position after its step
+  abbrev after : Position
+  after = forward (start c .args .k) h (countsIn (start c .args .middle))
 
--- so it is safe if the definition's is
-judged : (c : tie.After-forward) {b : Bool} →
-    let args = c .before .before .before .args in
-    b ≡ safe (args .k) (cells (c .forward .result))
-    → b ≡ safe (args .k) (forward (args .k) (onInput (tableIn (args .table)) (args .input)) (cells (now (args .middle))))
-judged c e =
-    let args = c .before .before .before .args in
-    e ∙ ap (safe (args .k)) (stepped c) ∙ safe-wide (args .k) _ (few c)
+  few : length after ≤ 8
+  few = rw (forward-length (start c .args .k) h (countsIn (start c .args .middle))) small
 
-on-input-requires : tie.Need-on-input-requires
-on-input-requires c κs = search needs
+  -- is safe if the word is
+  judged : {b : Bool} → b ≡ safe (start c .args .k) (countsIn (c .forward .result)) → b ≡ safe (start c .args .k) after
+  judged e = e ∙ ap (safe (start c .args .k)) (c .forward .ensures h stated) ∙ safe-wide (start c .args .k) after few
 
 forward-requires : tie.Need-forward-requires
 forward-requires c κs = search needs
@@ -55,10 +40,9 @@ safe-requires : tie.Need-safe-requires
 safe-requires c κs = search needs
 
 returns : tie.Need-returns
-returns c =
+returns c h stated small =
     let called = c .before in
-    let step = called .before .before in
-    let told = judged step (called .safe .ensures) in
+    let told = judged (called .before) h stated small (called .safe .ensures) in
     (sym (not-true _ (c .if1 .taken)) ∙ told, λ e. absurd (true≢false (sym e)))
 
 raise-requires : tie.Need-raise-requires
@@ -71,21 +55,23 @@ same-length-2 : tie.Need-same-length-2
 same-length-2 c = search needs
 
 returns-2 : tie.Need-returns-2
-returns-2 c =
-    let raise = c .before .before .before in
-    let kept = raise .before .before .before .before in
+returns-2 c h stated small =
+    let raise = c .before .before .before .before in
+    let kept = raise .before .before .before in
     let called = kept .before in
-    let step = called .before .before in
-    let args = step .before .before .before .args in
-    let F = forward (args .k) (onInput (tableIn (args .table)) (args .input)) (cells (now (args .middle))) in
-    let told = sym (judged step (called .safe .ensures)) ∙ not-false _ (kept .if1 .left) in
-    (sym told, λ _. raised-wide F (few step) (rw (stepped step) at (raise .raise .ensures (args .k) (rw (stepped step) (safe-wide (args .k) F (few step) ∙ told)))))
+    let step = called .before in
+    let F = after step h stated small in
+    let e = step .forward .ensures h stated in
+    let told = not-false _ (kept .if1 .left) in
+    let raised = raise .raise .ensures (start step .args .k) (sym (called .safe .ensures) ∙ told) in (
+      sym told ∙ judged step h stated small (called .safe .ensures),
+      λ _. raised-wide F (few step h stated small) (rw e at raised),
+    )
 
 pub lead-spec : {M : Type 1} → statement M
 lead-spec =
     tie.close
     (tie.spec
-    on-input-requires
     forward-requires
     safe-requires
     returns
