@@ -2,20 +2,17 @@
 -- exactly where none fails and following the rows keeps every run to K, or doesn't. From what holds of every list of checks; two answers
 -- that fit agree on the verdict, since each says exactly the same of it.
 use mathlib.Core.Path.{_≡_, refl, sym, ap, _∙_}
-use mathlib.Core.Logic.{_↔_, _⊎_, inl, inr, ⊎-elim, Iff·trans}
+use mathlib.Core.Logic.{_⊎_, inl, inr, Iff·trans}
 use mathlib.Core.Bool.{Bool, true, false, cond}
 use mathlib.Core.List.{List}
 use Prim.Native.Nat.{ℕ}
 use Rattle.meaning.specs.declared.Answer.{Answer}
 use Rattle.meaning.specs.declared.Verdict.{Verdict}
-use Rattle.meaning.specs.declared.Verdict.the-variants.{Realizable, Unrealizable, Refused}
-use Rattle.meaning.specs.declared.Refusal.{Refusal}
-use Rattle.meaning.specs.Table.{stated}
+use Rattle.meaning.specs.declared.Verdict.the-variants.{Realizable, Unrealizable}
 use Rattle.meaning.specs.Checks.{Check, Passes}
 use Rattle.meaning.specs.Answers.{startOf, refused}
-use Rattle.meaning.specs.Play.{Realizes}
-use Rattle.meaning.specs.Controller.{checkChecks, followed, verdictOn, Found, CheckCall}
-use Rattle.meaning.specs.Calls.{code, Unrefused}
+use Rattle.meaning.specs.Controller.{checkChecks, verdictOn, Found, CheckCall}
+use Rattle.meaning.specs.Calls.{Unrefused}
 use Rattle.meaning.specs.Demands.{Refuses, Judges}
 use Rattle.meaning.proofs.Tests.{clash, refuted, same-test}
 use Rattle.meaning.proofs.Checks.{Failure, first-failure, judge-fails, judge-passes, Judged, judged}

@@ -7,13 +7,13 @@ use mathlib.Core.Bool.{true}
 use mathlib.Core.List.{List, [], _∷_}
 use Prim.Native.Nat.{ℕ, suc, _+_, _≤_, _<_}
 use native.Mathlib.Omega.{arith}
-use lib.Dec.{eqb, ltb}
+use lib.Dec.{ltb}
 use borrow.Author.Tests.{ltb-true}
 use Rattle.meaning.specs.Lists.{every}
 use Rattle.meaning.specs.Table.{Table, Good, StartsDeclared}
 use Rattle.meaning.specs.Counting.{Position, count, safe, below, startPosition}
 use Rattle.meaning.specs.Written.{Row, afterRound}
-use Rattle.meaning.specs.Play.{Strategy, Legal, Run, Realizes, row, rowOutput, rowNext, stateAfter, follow}
+use Rattle.meaning.specs.Play.{Strategy, Legal, Run, Realizes, rowOutput, rowNext, stateAfter, follow}
 use Rattle.meaning.specs.Play.Run.{here, round}
 use Rattle.meaning.specs.Controller.{firstState, inputsIn, hasRows}
 use Rattle.meaning.proofs.Lists.{every-at, found-or-default}

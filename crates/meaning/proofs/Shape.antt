@@ -7,11 +7,10 @@ use mathlib.Core.Bool.{Bool, true, false, not, cond, _&&_, _||_}
 use mathlib.Core.List.{List}
 use Prim.Native.Nat.{ℕ, zero, suc, _+_, _-_, _≤_, _<_}
 use native.Mathlib.Nat.{add-zero, add-suc}
-use native.Mathlib.Decide.{decLt}
 use native.Mathlib.Omega.{arith}
 use lib.Dec.{eqb, ltb}
 use lib.ListN.{length}
-use borrow.Author.Tests.{eqb-true, eqb-false, eq-eqb, ltb-true, not-false}
+use borrow.Author.Tests.{eqb-true, eq-eqb, ltb-true}
 use Rattle.meaning.specs.Written.{Row}
 use Rattle.meaning.specs.Play.{row}
 use Rattle.meaning.specs.Controller.{firstState, lastInput, inOrder, inputGoesOn, outputStays, goesOn}

@@ -1,6 +1,6 @@
 -- An array that marks the states of the rows seen so far: what it marks has rows, and each row seen has its state marked. When all rows are
 -- seen it marks exactly the states that have rows. Assumes nothing.
-use mathlib.Core.Path.{_≡_, refl, sym, ap, _∙_, subst⁻¹}
+use mathlib.Core.Path.{_≡_, refl, sym, ap, _∙_}
 use mathlib.Core.Bool.{Bool, true, false}
 use mathlib.Core.List.{List}
 use Prim.Native.Nat.{ℕ, _+_, _≤_, _<_}

@@ -3,14 +3,13 @@
 use mathlib.Core.Path.{_≡_, refl, sym, ap, _∙_}
 use mathlib.Core.List.{List}
 use Prim.Native.Nat.{ℕ, suc, _≤_, _<_}
-use native.Mathlib.Nat.{le-antisymm, not-suc-le-zero}
+use native.Mathlib.Nat.{le-antisymm}
 use native.Mathlib.Decide.{ℕ-discrete}
 use native.Mathlib.Omega.{arith}
 use borrow.Author.Tests.{eqb-true, eq-eqb}
 use lib.ListN.{length, getD, set, length-set}
 use Rattle.meaning.specs.Written.{Row}
 use Rattle.meaning.specs.Play.{rowsIn, row}
-use Rattle.meaning.specs.Controller.{hasRows}
 use Rattle.meaning.proofs.Lists.{place-holds, place-found}
 use Rattle.meaning.proofs.Lookups.{noRow}
 use Rattle.meaning.proofs.Formed.{formed, isOf, rowsOf, has-place}
