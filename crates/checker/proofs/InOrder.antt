@@ -3,7 +3,7 @@
 use mathlib.Core.Path.{_≡_, sym, ap, _∙_}
 use mathlib.Core.Logic.{_↔_}
 use mathlib.Core.Bool.{Bool, true, false, not, or-true}
-use mathlib.Core.List.{List, [], _∷_}
+use mathlib.Core.List.{List, [], _∷_, _++_}
 use Prim.Native.Nat.{ℕ, _≤_, _<_}
 use lib.Dec.{ltb}
 use borrow.Author.Tests.{lt-ltb, le-ltb, eq-eqb, ne-eqb}
@@ -18,10 +18,10 @@ use Rattle.meaning.specs.Answers.{refused}
 use Rattle.meaning.specs.Play.{rowsIn, Realizes}
 use Rattle.meaning.specs.Controller.{inputsIn, wellFormed, misshapen, foreign, checkChecks, followed, verdictOn, Found}
 use Rattle.meaning.proofs.Answers.{cond-granted}
-use Rattle.meaning.proofs.Checks.{judge-passes, judge-append}
+use Rattle.meaning.proofs.Checks.{judge-passes}
 use Rattle.table.specs.declared.Checked.the-variants.{Fails}
 use Rattle.table.specs.Checked.{checkedOf}
-use Rattle.table.proofs.Judged.{byChecked, failedCheck, judge-checked}
+use Rattle.table.proofs.Judged.{table-refuses, table-passes}
 use Rattle.checker.specs.Followable.{OfLetters}
 
 module _ (bytes : List ℕ) (K : ℕ) (rows : List ℕ) where
@@ -46,21 +46,18 @@ module _ (bytes : List ℕ) (K : ℕ) (rows : List ℕ) where
   found-bound h e = refusing (check Bound 0 0 true) (λ grant. rw (lt-ltb 7 K h)) e
 
   module _ (patient : K ≤ 7) where
-    opened : (grant : Answer) → judge (checkChecks bytes K rows) refused grant
-        ≡ judge (tableChecks 0 bytes) refused (judge ofRows refused grant)
+    opened : (grant : Answer) → judge (checkChecks bytes K rows) refused grant ≡ judge (tableChecks 0 bytes ++ ofRows) refused grant
     unfolding checkChecks bound
-    opened grant = (rw (le-ltb 7 K patient)) ∙ judge-append (tableChecks 0 bytes) ofRows refused grant
+    opened grant = rw (le-ltb 7 K patient)
 
     pub found-table : {r : Refusal} {place : ℕ} → checkedOf (tableChecks 0 bytes) ≡ Fails r place → {answer : Answer}
         → answer ≡ refused (check r place 0 true) → Found bytes K rows answer
     found-table {r} {place} f e =
-        refusing (check r place 0 true)
-        (λ grant. opened grant ∙ judge-checked 0 bytes refused (judge ofRows refused grant)
-        ∙ ap (byChecked (λ (r : Refusal) (p : ℕ). refused (failedCheck 0 r p)) (judge ofRows refused grant)) f) e
+        refusing (check r place 0 true) (λ grant. opened grant ∙ table-refuses 0 bytes ofRows refused grant f) e
 
     module _ (good : Passes (tableChecks 0 bytes)) where
       read : (grant : Answer) → judge (checkChecks bytes K rows) refused grant ≡ judge ofRows refused grant
-      read grant = opened grant ∙ judge-passes (tableChecks 0 bytes) refused (judge ofRows refused grant) good
+      read grant = opened grant ∙ table-passes 0 bytes ofRows refused grant good
 
       pub found-rows : wellFormed rows ≡ false → {answer : Answer} → answer ≡ refused (check Rows 0 0 true) → Found bytes K rows answer
       unfolding misshapen refused

@@ -17,11 +17,10 @@ use Rattle.meaning.specs.Rounds.{Set, FirstSet}
 use Rattle.meaning.specs.Answers.{refused, Solved, unsolved, solvedFrom, solved}
 use Rattle.meaning.specs.Checks.{Check, check, judge, bound, room, tableChecks, stageChecks, Passes}
 use Rattle.meaning.proofs.Records.{letters-top}
-use Rattle.meaning.proofs.Checks.{judge-passes, judge-append}
 use Rattle.meaning.proofs.Sound.{passes-sound, passes-good, passes-small}
 use Rattle.table.specs.declared.Checked.the-variants.{Fails}
 use Rattle.table.specs.Checked.{checkedOf}
-use Rattle.table.proofs.Judged.{byChecked, failedCheck, judge-checked}
+use Rattle.table.proofs.Judged.{table-refuses, table-passes}
 use Rattle.lists.specs.Members.{members}
 use Rattle.rounds.specs.Rounds.{Settles}
 use Rattle.rounds.specs.declared.Settled.{Settled}
@@ -57,17 +56,11 @@ module _ (which : ℕ) (bytes : List ℕ) (win con : List ℕ) (cs : List Check)
   pub table-refused : {r : Refusal} {place : ℕ} → checkedOf (tableChecks 0 bytes) ≡ Fails r place → {answer : Answer}
       → answer ≡ refused (check r place which true) → solved answer win con ≡ read
   unfolding unsolved
-  table-refused {r} {place} f e =
-      let rest = judge cs (unsolved win con) grant in
-      ap (λ (answer : Answer). solved answer win con) e
-      ∙ sym (judge-append (tableChecks which bytes) cs (unsolved win con) grant
-      ∙ judge-checked which bytes (unsolved win con) rest
-      ∙ ap (byChecked (λ (r : Refusal) (p : ℕ). unsolved win con (failedCheck which r p)) rest) f)
+  table-refused f e =
+      ap (λ (answer : Answer). solved answer win con) e ∙ sym (table-refuses which bytes cs (unsolved win con) grant f)
 
   pub read-on : Passes (tableChecks which bytes) → judge cs (unsolved win con) grant ≡ read
-  read-on p =
-      sym (judge-append (tableChecks which bytes) cs (unsolved win con) grant
-      ∙ judge-passes (tableChecks which bytes) (unsolved win con) (judge cs (unsolved win con) grant) p)
+  read-on p = sym (table-passes which bytes cs (unsolved win con) grant p)
 
 -- the table of bytes that pass 4 to 10 may be solved
 pub passes-fit : (which : ℕ) (bytes : List ℕ) → Passes (tableChecks which bytes) → Fit (tableOf (recordsOf bytes))

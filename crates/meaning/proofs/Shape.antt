@@ -94,10 +94,12 @@ module _ (rows : List Row) (f : Formed rows) where
         eqb-true (s .input) (suc (r .input)) (rw same at (inputs-on rows f i l)),
       )
 
-  -- "a state has one output"
-  pub one-output : (i d : ℕ) → i + d < length rows → state (i + d) ≡ state i → row rows (i + d) .output ≡ row rows i .output
-  one-output i zero l e = ap (λ (j : ℕ). row rows j .output) (add-zero i)
-  one-output i (suc d) l e = go (one-output i d)
+  -- and from a row to any later one of its state
+  kept-on : (i d : ℕ) → i + d < length rows → state (i + d) ≡ state i
+      → (row rows (i + d) .output ≡ row rows i .output) × (row rows (i + d) .input ≡ row rows i .input + d)
+  kept-on i zero l e =
+      (ap (λ (j : ℕ). row rows j .output) (add-zero i), ap (λ (j : ℕ). row rows j .input) (add-zero i) ∙ sym (add-zero (row rows i .input)))
+  kept-on i (suc d) l e = go (kept-on i d (omega (arith, l)) before)
     where
       step : i + suc d ≡ suc (i + d)
       step = add-suc i d
@@ -108,31 +110,21 @@ module _ (rows : List Row) (f : Formed rows) where
       before : state (i + d) ≡ state i
       before = together i d (omega (arith, l)) here
 
-      go : (i + d < length rows → state (i + d) ≡ state i → row rows (i + d) .output ≡ row rows i .output)
-          → row rows (i + suc d) .output ≡ row rows i .output
+      go : (row rows (i + d) .output ≡ row rows i .output) × (row rows (i + d) .input ≡ row rows i .input + d)
+          → (row rows (i + suc d) .output ≡ row rows i .output) × (row rows (i + suc d) .input ≡ row rows i .input + suc d)
       go rest =
-          ap (λ (j : ℕ). row rows j .output) step ∙ same-goes-on (i + d) (omega (arith, l)) (here ∙ sym before) .0
-          ∙ rest (omega (arith, l)) before
+          let last = same-goes-on (i + d) (omega (arith, l)) (here ∙ sym before) in (
+            ap (λ (j : ℕ). row rows j .output) step ∙ last .0 ∙ rest .0,
+            ap (λ (j : ℕ). row rows j .input) step ∙ last .1 ∙ ap suc (rest .1) ∙ sym (add-suc (row rows i .input) d),
+          )
+
+  -- "a state has one output"
+  pub one-output : (i d : ℕ) → i + d < length rows → state (i + d) ≡ state i → row rows (i + d) .output ≡ row rows i .output
+  one-output i d l e = kept-on i d l e .0
 
   -- "once each in order"
   pub inputs-once : (i d : ℕ) → i + d < length rows → state (i + d) ≡ state i → row rows (i + d) .input ≡ row rows i .input + d
-  inputs-once i zero l e = ap (λ (j : ℕ). row rows j .input) (add-zero i) ∙ sym (add-zero (row rows i .input))
-  inputs-once i (suc d) l e = go (inputs-once i d)
-    where
-      step : i + suc d ≡ suc (i + d)
-      step = add-suc i d
-
-      here : state (suc (i + d)) ≡ state i
-      here = ap state (sym step) ∙ e
-
-      before : state (i + d) ≡ state i
-      before = together i d (omega (arith, l)) here
-
-      go : (i + d < length rows → state (i + d) ≡ state i → row rows (i + d) .input ≡ row rows i .input + d)
-          → row rows (i + suc d) .input ≡ row rows i .input + suc d
-      go rest =
-          ap (λ (j : ℕ). row rows j .input) step ∙ same-goes-on (i + d) (omega (arith, l)) (here ∙ sym before) .1
-          ∙ ap suc (rest (omega (arith, l)) before) ∙ sym (add-suc (row rows i .input) d)
+  inputs-once i d l e = kept-on i d l e .1
 
   -- "up to the same last one": no input is above it, counted from the last row back
   pub inputs-up-to-last : (d i : ℕ) → i + d ≡ length rows - 1 → row rows i .input ≤ lastInput rows

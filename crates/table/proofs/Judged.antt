@@ -4,7 +4,7 @@
 use mathlib.Core.Path.{_≡_, refl, sym, ap, _∙_}
 use mathlib.Core.Logic.{_⊎_, inl, inr}
 use mathlib.Core.Bool.{Bool, true, false}
-use mathlib.Core.List.{List, [], _∷_, map}
+use mathlib.Core.List.{List, [], _∷_, _++_, map}
 use Prim.Native.Nat.{ℕ, suc, _<_}
 use native.Mathlib.Omega.{arith}
 use lib.ListN.{length, getD, drop}
@@ -15,7 +15,7 @@ use Rattle.meaning.specs.Table.{tableOf}
 use Rattle.meaning.specs.Checks.{Check, bound, judge, tableChecks}
 use Rattle.meaning.specs.Checks as N
 use Rattle.meaning.proofs.Checks as C
-use Rattle.meaning.proofs.Checks.{Failure, first-failure, judge-fails}
+use Rattle.meaning.proofs.Checks.{Failure, first-failure, judge-fails, judge-passes, judge-append}
 use Rattle.meaning.proofs.Sound.{other-which}
 use Rattle.table.specs.declared.Checked.{Checked}
 use Rattle.table.specs.declared.Checked.the-variants.{Passes, Fails}
@@ -64,6 +64,19 @@ pub judge-checked : {A : Type 0} (which : ℕ) (bytes : List ℕ) (refuse : Chec
     ≡ byChecked (λ r p. refuse (failedCheck which r p)) grant (checkedOf (tableChecks 0 bytes))
 unfolding tableChecks
 judge-checked which bytes refuse grant = judge-cases which (tableChecks 0 bytes) refuse grant
+
+-- before any others: a refusal of the table is what all of them come to, and where it passes the others are left
+module _ {A : Type 0} (which : ℕ) (bytes : List ℕ) (cs : List Check) (refuse : Check → A) (grant : A) where
+  pub table-refuses : {r : Refusal} {place : ℕ} → checkedOf (tableChecks 0 bytes) ≡ Fails r place
+      → judge (tableChecks which bytes ++ cs) refuse grant ≡ refuse (failedCheck which r place)
+  table-refuses f =
+      judge-append (tableChecks which bytes) cs refuse grant
+      ∙ judge-checked which bytes refuse (judge cs refuse grant)
+      ∙ ap (byChecked (λ (r : Refusal) (p : ℕ). refuse (failedCheck which r p)) (judge cs refuse grant)) f
+
+  pub table-passes : N.Passes (tableChecks which bytes) → judge (tableChecks which bytes ++ cs) refuse grant ≡ judge cs refuse grant
+  table-passes p =
+      judge-append (tableChecks which bytes) cs refuse grant ∙ judge-passes (tableChecks which bytes) refuse (judge cs refuse grant) p
 
 -- checks whose answer is that they pass do not fail
 none-fails : (cs : List Check) → checkedOf cs ≡ Passes → N.Passes cs
