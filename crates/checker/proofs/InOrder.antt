@@ -5,24 +5,20 @@ use mathlib.Core.Logic.{_↔_}
 use mathlib.Core.Bool.{Bool, true, false, not, or-true}
 use mathlib.Core.List.{List, [], _∷_, _++_}
 use Prim.Native.Nat.{ℕ, _≤_, _<_}
-use lib.Dec.{ltb}
 use borrow.Author.Tests.{lt-ltb, le-ltb, eq-eqb, ne-eqb}
 use Rattle.meaning.specs.declared.Answer.{Answer}
 use Rattle.meaning.specs.declared.Refusal.{Refusal}
 use Rattle.meaning.specs.declared.Refusal.the-variants.{Bound, Letters, Rows}
-use Rattle.meaning.specs.Lists.{every}
 use Rattle.meaning.specs.Table.{stated}
-use Rattle.meaning.specs.Written.{Row}
 use Rattle.meaning.specs.Checks.{Check, check, judge, Passes, bound, tableChecks}
 use Rattle.meaning.specs.Answers.{refused}
 use Rattle.meaning.specs.Play.{rowsIn, Realizes}
-use Rattle.meaning.specs.Controller.{inputsIn, wellFormed, misshapen, foreign, checkChecks, followed, verdictOn, Found}
+use Rattle.meaning.specs.Controller.{inputsIn, wellFormed, misshapen, ofLetters, foreign, checkChecks, followed, verdictOn, Found}
 use Rattle.meaning.proofs.Answers.{cond-granted}
 use Rattle.meaning.proofs.Checks.{judge-passes}
 use Rattle.table.specs.declared.Checked.the-variants.{Fails}
 use Rattle.table.specs.Checked.{checkedOf}
 use Rattle.table.proofs.Judged.{table-refuses, table-passes}
-use Rattle.checker.specs.Followable.{OfLetters}
 
 module _ (bytes : List ℕ) (K : ℕ) (rows : List ℕ) where
   -- 15 and 13
@@ -69,7 +65,7 @@ module _ (bytes : List ℕ) (K : ℕ) (rows : List ℕ) where
         unfolding misshapen foreign refused
         foreign-refused f e = refusing (check Letters 0 0 true) (λ grant. read grant ∙ (rw (formed, f))) e
 
-        pub found-outputs : every (λ (r : Row). ltb (r .output) (stated bytes .outputs)) (rowsIn rows) ≡ false → {answer : Answer}
+        pub found-outputs : ofLetters (stated bytes .outputs) (rowsIn rows) ≡ false → {answer : Answer}
             → answer ≡ refused (check Letters 0 0 true) → Found bytes K rows answer
         unfolding foreign
         found-outputs f e = foreign-refused (rw f) e
@@ -78,10 +74,10 @@ module _ (bytes : List ℕ) (K : ℕ) (rows : List ℕ) where
             → answer ≡ refused (check Letters 0 0 true) → Found bytes K rows answer
         unfolding foreign
         found-inputs d e =
-            let strange = not (every (λ (r : Row). ltb (r .output) (stated bytes .outputs)) (rowsIn rows)) in
+            let strange = not (ofLetters (stated bytes .outputs) (rowsIn rows)) in
             foreign-refused (rw (ne-eqb _ _ d) (or-true strange)) e
 
-        pub found-verdict : OfLetters (stated bytes .outputs) (rowsIn rows) → inputsIn (rowsIn rows) ≡ stated bytes .inputs → (right : Bool)
+        pub found-verdict : ofLetters (stated bytes .outputs) (rowsIn rows) ≡ true → inputsIn (rowsIn rows) ≡ stated bytes .inputs → (right : Bool)
             → (right ≡ true) ↔ Realizes K (stated bytes) (followed rows) → {answer : Answer} → answer ≡ verdictOn right
             → Found bytes K rows answer
         unfolding misshapen foreign

@@ -6,10 +6,11 @@ use mathlib.Core.Bool.{Bool, true}
 use mathlib.Core.List.{List}
 use Prim.Native.Nat.{ℕ, _+_, _≤_, _<_, max}
 use native.Mathlib.Nat.{le-refl}
-use native.Mathlib.Decide.{decLe, ℕ-discrete}
+use native.Mathlib.Decide.{decLe}
 use native.Mathlib.Omega.{arith}
 use borrow.Author.Count.{below-none, below-more}
 use Rattle.meaning.specs.Counting.{Position, count, safe}
+use Rattle.meaning.proofs.Searches.{at-each}
 use Rattle.checker.specs.Raised.{countsAt, flagAt, roomOfAll, Rises, Raised, Led}
 
 module _ (K : ℕ) (next : ℕ → ℕ) (after : ℕ → Position) (most : List ℕ) (risen : List Bool) where
@@ -29,16 +30,18 @@ module _ (K : ℕ) (next : ℕ → ℕ) (after : ℕ → Position) (most : List 
       (safely : safe K (after n) ≡ true) (raised : Raised K (next n) (after n) most₁ risen₁ most₂ risen₂) where
     -- one state's counts rise, all others stay
     rose : (s q : ℕ) → count (countsAt most₁ s) q ≤ count (countsAt most₂ s) q
-    rose s q = go (ℕ-discrete s (next n))
-      where
-        go : Dec (s ≡ next n) → count (countsAt most₁ s) q ≤ count (countsAt most₂ s) q
-        go (yes e) = rw e (omega (arith, raised .greatest q))
-        go (no d) = let same = ap (λ (F : Position). count F q) (raised .others s d .0) in omega (arith, same)
+    rose s q =
+        at-each (λ s. count (countsAt most₁ s) q ≤ count (countsAt most₂ s) q) (next n) (omega (arith, raised .greatest q))
+        (λ s d. let same = ap (λ (F : Position). count F q) (raised .others s d .0) in omega (arith, same)) s
 
     -- where a count is from
     from : (s q : ℕ) → (count (countsAt most₂ s) q ≡ count (countsAt most₁ s) q)
         ⊎ ((next n ≡ s) × (count (countsAt most₂ s) q ≡ count (after n) q))
-    from s q = go (ℕ-discrete s (next n))
+    from s q =
+        at-each
+        (λ s. (count (countsAt most₂ s) q ≡ count (countsAt most₁ s) q) ⊎ ((next n ≡ s) × (count (countsAt most₂ s) q ≡ count (after n) q)))
+        (next n) (⊎-elim (λ a. inl a) (λ b. inr (refl, b)) (either _ _ _ (raised .greatest q)))
+        (λ s d. inl (ap (λ (F : Position). count F q) (raised .others s d .0))) s
       where
         either : (a b c : ℕ) → c ≡ max a b → (c ≡ a) ⊎ (c ≡ b)
         either a b c e = pick (decLe b a)
@@ -47,28 +50,18 @@ module _ (K : ℕ) (next : ℕ → ℕ) (after : ℕ → Position) (most : List 
             pick (yes l) = inl (omega arith)
             pick (no l) = inr (omega arith)
 
-        go : Dec (s ≡ next n) → (count (countsAt most₂ s) q ≡ count (countsAt most₁ s) q)
-            ⊎ ((next n ≡ s) × (count (countsAt most₂ s) q ≡ count (after n) q))
-        go (yes e) =
-            rw e (⊎-elim (λ a. inl a) (λ b. inr (refl, b)) (either _ _ _ (raised .greatest q)))
-        go (no d) = inl (ap (λ (F : Position). count F q) (raised .others s d .0))
-
     -- a state is flagged, or it is as it was before this input
     told : (s : ℕ) → (flagAt risen₂ s ≡ true) ⊎ ((countsAt most₂ s ≡ countsAt most₁ s) × (flagAt risen₂ s ≡ flagAt risen₁ s))
-    told s = go (ℕ-discrete s (next n))
-      where
-        go : Dec (s ≡ next n) → (flagAt risen₂ s ≡ true) ⊎ ((countsAt most₂ s ≡ countsAt most₁ s) × (flagAt risen₂ s ≡ flagAt risen₁ s))
-        go (yes e) =
-            ⊎-elim (λ f. inl (ap (flagAt risen₂) e ∙ f))
-            (λ same. inr (ap (λ m. countsAt m s) (same .0), ap (λ f. flagAt f s) (same .1))) (raised .flagged)
-        go (no d) = inr (raised .others s d)
+    told =
+        at-each
+        (λ s. (flagAt risen₂ s ≡ true) ⊎ ((countsAt most₂ s ≡ countsAt most₁ s) × (flagAt risen₂ s ≡ flagAt risen₁ s))) (next n)
+        (⊎-elim (λ f. inl f) (λ same. inr (ap (λ m. countsAt m (next n)) (same .0), ap (λ f. flagAt f (next n)) (same .1))) (raised .flagged))
+        (λ s d. inr (raised .others s d))
 
     marked : (s : ℕ) → flagAt risen₂ s ≡ true → (flagAt risen₁ s ≡ true) ⊎ (next n ≡ s)
-    marked s p = go (ℕ-discrete s (next n))
-      where
-        go : Dec (s ≡ next n) → (flagAt risen₁ s ≡ true) ⊎ (next n ≡ s)
-        go (yes e) = inr (sym e)
-        go (no d) = inl (sym (raised .others s d .1) ∙ p)
+    marked =
+        at-each (λ s. flagAt risen₂ s ≡ true → (flagAt risen₁ s ≡ true) ⊎ (next n ≡ s)) (next n) (λ _. inr refl)
+        (λ s d p. inl (sym (raised .others s d .1) ∙ p))
 
     rises : Rises K most risen most₂ risen₂
     rises =

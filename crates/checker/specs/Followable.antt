@@ -3,22 +3,15 @@ use mathlib.Core.Path.{_≡_}
 use mathlib.Core.Bool.{true}
 use mathlib.Core.List.{List}
 use Prim.Native.Nat.{ℕ}
-use lib.Dec.{ltb}
-use Rattle.meaning.specs.Lists.{every}
 use Rattle.meaning.specs.Table.{Table, Good, StartsDeclared}
-use Rattle.meaning.specs.Written.{Row}
 use Rattle.meaning.specs.Play.{rowsIn}
-use Rattle.meaning.specs.Controller.{inputsIn, wellFormed}
+use Rattle.meaning.specs.Controller.{inputsIn, wellFormed, ofLetters}
 use Rattle.steps.specs.Bounded.{Bounded}
-
--- each row's output is a letter
-abbrev pub OfLetters : ℕ → List Row → Type 0
-OfLetters outputs rows = every (λ (r : Row). ltb (r .output) outputs) rows ≡ true
 
 pub record Followable (K : ℕ) (t : Table) (rows : List ℕ) : Type 0 where
   pub bounded : Bounded K t
   pub good : Good t
   pub declared : StartsDeclared t
   pub formed : wellFormed rows ≡ true
-  pub outputs : OfLetters (t .outputs) (rowsIn rows)
+  pub outputs : ofLetters (t .outputs) (rowsIn rows) ≡ true
   pub inputs : inputsIn (rowsIn rows) ≡ t .inputs

@@ -9,10 +9,8 @@ use meaning::Verdict;
 use table::Checked;
 use table::checks;
 ghost use mathlib.Core.Path.{_≡_};
-ghost use lib.Dec.{ltb};
-ghost use Rattle.meaning.specs.Lists.{every};
 ghost use Rattle.meaning.specs.Play.{rowsIn};
-ghost use Rattle.meaning.specs.Controller.{Found, verdictOn};
+ghost use Rattle.meaning.specs.Controller.{ofLetters, verdictOn, Found};
 
 // Checks rows against a table for the patience count k.
 pub fn check(table: &[u8], k: usize, rows: &[u8]) -> Answer
@@ -41,7 +39,7 @@ pub fn check(table: &[u8], k: usize, rows: &[u8]) -> Answer
 
 // 13: whether each row's output is one of so many letters.
 fn of_letters(rows: &[u8], outputs: usize) -> bool
-    ensures { λ b. ⌜ b ≡ every (λ r. ltb (r .output) outputs) (rowsIn (now (rows .entry))) ⌝ }
+    ensures { λ r. ⌜ r ≡ ofLetters outputs (rowsIn (now (rows .entry))) ⌝ }
 {
     let mut i = 0;
     while i < rows.len() / 4 {

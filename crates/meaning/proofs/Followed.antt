@@ -1,5 +1,5 @@
 -- Following rows from their first state, judged by counts for each controller state. If the counts are safe, cover the start, and a round
--- leads from no state's counts above the next state's, they guard every run (`Guards` of Winning.antt): the rows keep every run to K. If a
+-- leads from no state's counts above the next state's, they guard every run (`counts-keep` of Rows.antt): the rows keep every run to K. If a
 -- count is one that some run attains, so is each count after a round from it; and a run that attains an overrun shows that they don't.
 use mathlib.Core.Path.{_≡_, refl, sym, ap, subst, subst⁻¹}
 use mathlib.Core.Logic.{⊎-elim}
@@ -9,24 +9,23 @@ use Prim.Native.Nat.{ℕ, suc, _+_, _≤_, _<_}
 use native.Mathlib.Omega.{arith}
 use lib.Dec.{ltb}
 use borrow.Author.Tests.{ltb-true}
-use Rattle.meaning.specs.Lists.{every}
 use Rattle.meaning.specs.Table.{Table, Good, StartsDeclared}
 use Rattle.meaning.specs.Counting.{Position, count, safe, below, startPosition}
 use Rattle.meaning.specs.Written.{Row, afterRound}
 use Rattle.meaning.specs.Play.{Strategy, Legal, Run, Realizes, rowOutput, rowNext, stateAfter, follow}
 use Rattle.meaning.specs.Play.Run.{here, round}
-use Rattle.meaning.specs.Controller.{firstState, inputsIn, hasRows}
+use Rattle.meaning.specs.Controller.{firstState, inputsIn, hasRows, ofLetters}
 use Rattle.meaning.proofs.Lists.{every-at, found-or-default}
-use Rattle.meaning.proofs.Steps.{safe-down}
-use Rattle.meaning.proofs.Winning.{keeps-down, round-from, half-safe, guards-keep}
+use Rattle.meaning.proofs.Winning.{keeps-down, round-from}
 use Rattle.meaning.proofs.Realizes.{count-start, keeps-realizes}
 use Rattle.meaning.proofs.Lookups.{noRow}
+use Rattle.meaning.proofs.Rows.{counts-keep}
 use Rattle.meaning.proofs.Formed.{Formed, isOf, first-has, next-has}
 
 -- rows that may be followed on a table: well formed, of its outputs and its inputs
 pub record Fitting (t : Table) (rows : List Row) : Type 0 where
   pub formed : Formed rows
-  pub outputs : every (λ (r : Row). ltb (r .output) (t .outputs)) rows ≡ true
+  pub outputs : ofLetters (t .outputs) rows ≡ true
   pub inputs : inputsIn rows ≡ t .inputs
 
 -- the rows, followed from their first state
@@ -53,24 +52,13 @@ pub record Closed (K : ℕ) (t : Table) (rows : List Row) (most : ℕ → Positi
 
 pub closed-realizes : (K : ℕ) (t : Table) (rows : List Row) (most : ℕ → Position) → Good t → StartsDeclared t → Fitting t rows
     → Closed K t rows most → Realizes K t (following rows)
-unfolding stateAfter follow
 closed-realizes K t rows most good declared fits c =
     let first = firstState rows in
     let last : (i : ℕ) → i < t .inputs → i < inputsIn rows = λ i l. rw (fits .inputs) l in
     keeps-realizes K t declared (following rows) (following-legal t rows good fits)
     (keeps-down K t (startPosition K t) (most first) (following rows) (c .begins)
-    (guards-keep K t good (following rows) (λ inputs. most (stateReached rows inputs)) (λ inputs. hasRows rows (stateReached rows inputs) ≡ true)
-    (record {
-      begins = first-has rows (fits .formed);
-      continues = λ inputs i l on. next-has rows (fits .formed) (stateReached rows inputs) on i (omega (arith, last i l));
-      whole = λ inputs on. c .safely (stateReached rows inputs) on;
-      half = λ inputs on.
-          let s = stateReached rows inputs in
-          let some = good .some-input in
-          let then = next-has rows (fits .formed) s on 0 (omega (arith, last 0 some)) in
-          half-safe K t good (rowOutput rows s) (most s) (safe-down K _ (most (rowNext rows s 0)) (c .closed s 0 on some) (c .safely _ then));
-      next = λ inputs i l on. c .closed (stateReached rows inputs) i on l;
-    })))
+    (counts-keep K t good rows first most (λ s. hasRows rows s ≡ true) (first-has rows (fits .formed))
+    (λ s i l on. next-has rows (fits .formed) s on i (omega (arith, last i l))) (c .safely) (λ s i l on. c .closed s i on l)))
 
 -- a run that is in a controller state and a table state with at least this count
 pub record Attained (t : Table) (rows : List Row) (s q c : ℕ) : Type 0 where

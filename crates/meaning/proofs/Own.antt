@@ -8,10 +8,10 @@ use mathlib.Core.List.{List, [], _∷_, List·Memᴰ}
 use Prim.Native.Nat.{ℕ, _-_, _*_, _≤_, _<_}
 use native.Mathlib.Nat.{mul-le-mul-right}
 use native.Mathlib.Omega.{arith}
-use lib.Dec.{eqb, ltb, lit<}
+use lib.Dec.{eqb, lit<}
 use lib.ListN.{length}
 use borrow.Author.Tests.{eq-eqb, le-leb, lt-ltb, le-ltb, ltb-true, ltb-false}
-use Rattle.meaning.specs.Lists.{keep, tab, every}
+use Rattle.meaning.specs.Lists.{keep, tab}
 use Rattle.meaning.specs.Records.{Record, recordsOf, output, input}
 use Rattle.meaning.specs.Table.{Table, tableOf, stated, Good}
 use Rattle.meaning.specs.Rounds.{Set, allSafe, full, FirstSet}
@@ -20,8 +20,8 @@ use Rattle.meaning.specs.Join.{joined, joinedTable, pairs}
 use Rattle.meaning.specs.Checks.{Check, Passes, bound, tableChecks, stageChecks}
 use Rattle.meaning.specs.Answers.{Solved}
 use Rattle.meaning.specs.Play.{rowsIn}
-use Rattle.meaning.specs.Controller.{firstState, lastInput, inputsIn, hasRows, leadsOn, wellFormed, misshapen, foreign, checkChecks}
-use Rattle.meaning.specs.Controller.{CheckCall}
+use Rattle.meaning.specs.Controller.{firstState, lastInput, inputsIn, hasRows, leadsOn, wellFormed, misshapen, ofLetters, foreign}
+use Rattle.meaning.specs.Controller.{checkChecks, CheckCall}
 use Rattle.meaning.specs.Calls.{code, SolveCall, PartsCall, JoinCall, AcceptedJoin, wrote, controllerWritten}
 use Rattle.meaning.proofs.Lists.{every-at, every-of, any-of}
 use Rattle.meaning.proofs.Maximal.{StartCovered}
@@ -60,7 +60,7 @@ module _ (K : ℕ) (t : Table) (X : Set) (good : Good t) (first : FirstSet K t X
   own-inputs = let e = ends-at-last in let some = good .some-input in omega arith
 
   -- each row's output is a letter of the table, and its next state has rows
-  pub own-outputs : every (λ (r : Row). ltb (r .output) (t .outputs)) (controllerRows K t X) ≡ true
+  pub own-outputs : ofLetters (t .outputs) (controllerRows K t X) ≡ true
   own-outputs =
       every-of _ (controllerRows K t X)
       (λ r m. let right = member-right K t X covered r m in

@@ -14,14 +14,14 @@ use Rattle.meaning.specs.Counting.{Position, forward, safe, below}
 use Rattle.meaning.specs.Rounds.{Set, winning, FirstSet}
 use Rattle.meaning.specs.Written.{winners, covering, afterRound, outputOf, startState, Row, rowBytes, rowsOfState, controllerRows}
 use Rattle.meaning.specs.Written.{leadsBack, rowsFrom, stateOrder}
-use Rattle.meaning.specs.Play.{Legal, Keeps, rowsIn, rowOutput, stateAfter, follow}
+use Rattle.meaning.specs.Play.{Legal, Keeps, rowsIn, rowOutput, rowNext, stateAfter, follow}
 use Rattle.meaning.proofs.Tests.{each-at, each-of, first-holds, first-found}
 use Rattle.meaning.proofs.Lists.{tab-length, member-at, place-holds, flatMap-length}
-use Rattle.meaning.proofs.Steps.{forward-length}
+use Rattle.meaning.proofs.Steps.{safe-down, forward-length}
 use Rattle.meaning.proofs.Positions.{allSafe-safe}
 use Rattle.meaning.proofs.Rounds.{setA-leads, setB-leads, winning-safe, winning-fixed}
 use Rattle.meaning.proofs.Maximal.{member-in, winning-covered, StartCovered}
-use Rattle.meaning.proofs.Winning.{half-safe, Guards, guards-keep}
+use Rattle.meaning.proofs.Winning.{half-safe, guards-keep}
 use Rattle.meaning.proofs.Lookups.{order-length, winnerAt, outputAt, nextAt, output-found, next-found, some-output-found}
 
 -- rows come back from their bytes
@@ -41,6 +41,27 @@ rows-from-number K t won ws start h =
 pub rows-number : (K : ℕ) (t : Table) (X : Set) → StartCovered K t X → length (controllerRows K t X) ≡ length (winners K t X) * t .inputs
 unfolding controllerRows
 rows-number K t X h = rows-from-number K t (winning K t X) (winners K t X) (startState K t (winners K t X)) h
+
+-- Following rows from a state, with counts for each controller state that it may come to: if they are safe, and no input leads above the
+-- next state's, they guard the runs
+pub counts-keep : (K : ℕ) (t : Table) → Good t → (rows : List Row) (start : ℕ) (most : ℕ → Position) (On : ℕ → Type 0) → On start
+    → ((s i : ℕ) → i < t .inputs → On s → On (rowNext rows s i)) → ((s : ℕ) → On s → safe K (most s) ≡ true)
+    → ((s i : ℕ) → i < t .inputs → On s → below (afterRound K t (rowOutput rows s) i (most s)) (most (rowNext rows s i)) ≡ true)
+    → Keeps K t (most start) (follow rows start)
+unfolding stateAfter follow
+counts-keep K t good rows start most On begins leads safely closed =
+    guards-keep K t good (follow rows start) (λ inputs. most (stateAfter rows start inputs)) (λ inputs. On (stateAfter rows start inputs))
+    (record {
+      begins = begins;
+      continues = λ inputs i l on. leads (stateAfter rows start inputs) i l on;
+      whole = λ inputs on. safely (stateAfter rows start inputs) on;
+      half = λ inputs on.
+          let s = stateAfter rows start inputs in
+          let some = good .some-input in
+          half-safe K t good (rowOutput rows s) (most s)
+          (safe-down K _ (most (rowNext rows s 0)) (closed s 0 some on) (safely _ (leads s 0 some on)));
+      next = λ inputs i l on. closed (stateAfter rows start inputs) i l on;
+    })
 
 module _ (K : ℕ) (t : Table) (X : Set) (good : Good t) (first : FirstSet K t X) where
   -- in a winning position some output leads back, so the smallest is a letter, and it leads back
@@ -108,30 +129,10 @@ module _ (K : ℕ) (t : Table) (X : Set) (good : Good t) (first : FirstSet K t X
       (some-output-found K t X covered (stateReached K t X s inputs))
 
   -- the winner of the state reached guards the runs, as long as that state is one of the winners'
-  pub rows-guard : (s : ℕ) → s < length (winners K t X)
-      → Guards K t (follow (controllerRows K t X) s) (λ inputs. winnerAt K t X (stateReached K t X s inputs))
-      (λ inputs. stateReached K t X s inputs < length (winners K t X))
-  unfolding stateAfter follow
-  rows-guard s h =
-      let won : (q : ℕ) → q < length (winners K t X) → winning K t X (winnerAt K t X q) ≡ true = winner-wins K t X good first in
-      let says : (q : ℕ) → q < length (winners K t X) → rowOutput (controllerRows K t X) q ≡ outputAt K t X q =
-      λ q on. output-found K t X covered q on (good .some-input) in
-      record {
-        begins = h;
-        continues = λ inputs i l on.
-            let q = stateReached K t X s inputs in
-            rw (next-found K t X covered q i on l) (next-winner K t X good first q i on l);
-        whole = λ inputs on. let q = stateReached K t X s inputs in won-safe K t X good first (winnerAt K t X q) (won q on);
-        half = λ inputs on.
-            let q = stateReached K t X s inputs in
-            rw (says q on) (middle-safe K t X good first (winnerAt K t X q) (won q on));
-        next = λ inputs i l on.
-            let q = stateReached K t X s inputs in
-            rw (says q on, next-found K t X covered q i on l) (next-over K t X good first q i on l);
-      }
-
   pub rows-keep : (s : ℕ) → s < length (winners K t X) → Keeps K t (getD (winners K t X) s []) (follow (controllerRows K t X) s)
-  unfolding stateAfter
   rows-keep s h =
-      guards-keep K t good (follow (controllerRows K t X) s) (λ inputs. winnerAt K t X (stateReached K t X s inputs))
-      (λ inputs. stateReached K t X s inputs < length (winners K t X)) (rows-guard s h)
+      counts-keep K t good (controllerRows K t X) s (winnerAt K t X) (λ q. q < length (winners K t X)) h
+      (λ q i l on. rw (next-found K t X covered q i on l) (next-winner K t X good first q i on l))
+      (λ q on. won-safe K t X good first (winnerAt K t X q) (winner-wins K t X good first q on))
+      (λ q i l on. rw (output-found K t X covered q on (good .some-input), next-found K t X covered q i on l)
+      (next-over K t X good first q i on l))

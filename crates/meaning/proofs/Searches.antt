@@ -1,17 +1,26 @@
 -- What a loop that tries one number after the other knows: one more number tried, the first that holds, and none that holds. By the laws of
 -- the words themselves. Assumes nothing.
-use mathlib.Core.Path.{_≡_}
+use mathlib.Core.Path.{_≡_, subst⁻¹}
 use mathlib.Core.Logic.{⊎-elim}
 use mathlib.Core.Bool.{Bool, true, false}
 use mathlib.Core.List.{List}
 use Prim.Native.Nat.{ℕ, _+_, _<_}
 use native.Mathlib.Nat.{eq-or-lt-of-le}
+use native.Mathlib.Decide.{ℕ-discrete}
 use native.Mathlib.Numerals.{add-one}
 use native.Mathlib.Omega.{arith}
 use lib.ListN.{length, getD}
 use Rattle.meaning.specs.Lists.{each, some, first, place}
 use Rattle.meaning.proofs.Tests.{clash, refuted, each-at, some-at, first-le, first-holds}
 use Rattle.meaning.proofs.Lists.{place-le, place-holds, place-found}
+
+-- what holds at one number, and at every other
+pub at-each : (P : ℕ → Type 0) (k : ℕ) → P k → ((j : ℕ) → (j ≡ k → ⊥) → P j) → (j : ℕ) → P j
+at-each P k here elsewhere j = go (ℕ-discrete j k)
+  where
+    go : Dec (j ≡ k) → P j
+    go (yes e) = subst⁻¹ P e here
+    go (no e) = elsewhere j e
 
 -- each, one number further, and each and some at an end
 pub each-more : (n : ℕ) (f : ℕ → Bool) → each n f ≡ true → f n ≡ true → each (n + 1) f ≡ true

@@ -71,10 +71,13 @@ statesIn rows = length (keep (λ (r : Row). eqb (r .input) 0) rows)
 unfoldable pub misshapen : List ℕ → Check
 misshapen rows = check Rows 0 0 (not (wellFormed rows))
 
+-- each row's output is one of so many letters
+abbrev pub ofLetters : ℕ → List Row → Bool
+ofLetters outputs = every (λ (r : Row). ltb (r .output) outputs)
+
 -- 13 "if a row's output isn't a letter of the table or the inputs differ in number"
 unfoldable pub foreign : Table → List Row → Check
-foreign t rows =
-    check Letters 0 0 (not (every (λ (r : Row). ltb (r .output) (t .outputs)) rows) || not (eqb (inputsIn rows) (t .inputs)))
+foreign t rows = check Letters 0 0 (not (ofLetters (t .outputs) rows) || not (eqb (inputsIn rows) (t .inputs)))
 
 -- "Refusals: 2, then 4 to 10, then 15 .., then 13"
 unfoldable pub checkChecks : List ℕ → ℕ → List ℕ → List Check

@@ -1,7 +1,8 @@
-// The types that every call answers with, and the documents' number for each of their cases.
+// The types that every call answers with, the documents' number for each of their cases, and what tables
+// and rows are both asked: their size.
 ghost use mathlib.Core.Path.{_≡_};
 ghost use mathlib.Core.Bool.{true};
-ghost use Rattle.meaning.specs.Checks.{check};
+ghost use Rattle.meaning.specs.Checks.{check, wrongSize};
 ghost use Rattle.meaning.specs.Answers.{numberOf, codeOf, startOf, refused as refusedBy};
 
 // "Every answer carries a code, a place, which .., rounds, number of winners, start. The verdict
@@ -93,4 +94,14 @@ pub fn refused(refusal: Refusal, place: usize, which: usize) -> Answer
         rounds: 0,
         winners: 0,
     }
+}
+
+// A length of 0 bytes, not a multiple of 4, or over the most that there may be.
+pub fn wrong_size(bytes: &[u8], most: usize) -> bool
+    ensures { λ r. ⌜ r ≡ wrongSize most (now (bytes .entry)) ⌝ }
+{
+    if bytes.len() == 0 {
+        return true;
+    }
+    bytes.len() % 4 != 0 || most < bytes.len()
 }

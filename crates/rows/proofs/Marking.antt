@@ -4,7 +4,6 @@ use mathlib.Core.Path.{_≡_, refl, sym, ap, _∙_}
 use mathlib.Core.Bool.{Bool, true, false}
 use mathlib.Core.List.{List}
 use Prim.Native.Nat.{ℕ, _+_, _≤_, _<_}
-use native.Mathlib.Decide.{ℕ-discrete}
 use native.Mathlib.Omega.{arith}
 use borrow.Author.Count.{below-none, below-more}
 use borrow.Author.Tests.{eqb-true, eq-eqb}
@@ -15,6 +14,7 @@ use Rattle.meaning.specs.Play.{row}
 use Rattle.meaning.specs.Controller.{hasRows}
 use Rattle.meaning.proofs.Tests.{clash, same-test}
 use Rattle.meaning.proofs.Lists.{member-at, at-member, any-at, any-of, getD-alike}
+use Rattle.meaning.proofs.Searches.{at-each}
 use Rattle.meaning.proofs.Lookups.{noRow}
 use Rattle.meaning.proofs.Formed.{isOf}
 use Rattle.rows.specs.Placed.{Marked}
@@ -22,11 +22,8 @@ use Rattle.rows.specs.Placed.{Marked}
 -- what an array that is set at one place has at each place
 pub set-at-each : {A : Type 0} (xs : List A) (k : ℕ) (x d : A) (P : ℕ → A → Type 0) → k < length xs → P k x
     → ((j : ℕ) → (j ≡ k → ⊥) → P j (getD xs j d)) → (j : ℕ) → P j (getD (set xs k x) j d)
-set-at-each xs k x d P l here elsewhere j = go (ℕ-discrete j k)
-  where
-    go : Dec (j ≡ k) → P j (getD (set xs k x) j d)
-    go (yes e) = rw (e, getD-set-same xs k x d l) here
-    go (no n) = rw (getD-set-other xs k j x d n) (elsewhere j n)
+set-at-each xs k x d P l here elsewhere =
+    at-each (λ j. P j (getD (set xs k x) j d)) k (rw (getD-set-same xs k x d l) here) (λ j n. rw (getD-set-other xs k j x d n) (elsewhere j n))
 
 pub record Marking (rows : List Row) (i : ℕ) (named : List Bool) : Type 0 where
   pub long : length named ≡ 256

@@ -4,7 +4,6 @@ ghost use mathlib.Core.Path.{_≡_};
 ghost use Prim.Native.Nat.{suc, _≤_, _<_, _-_};
 ghost use lib.ListN.{length};
 ghost use Rattle.meaning.specs.Lists.{each, every};
-ghost use Rattle.meaning.specs.Checks.{wrongSize};
 ghost use Rattle.meaning.specs.Play.{rowsIn, row as rowAt, rowOutput, rowNext};
 ghost use Rattle.meaning.specs.Controller.{inOrder, inputGoesOn, outputStays, goesOn, leadsOn, inputsIn, statesIn, wellFormed};
 ghost use Rattle.rows.specs.Placed.{rowOf, Marked, Placed, Ready};
@@ -48,11 +47,14 @@ fn last(rows: &[u8]) -> Row
     at(rows, number - 1)
 }
 
+// The longest rows.
+const MOST_BYTES: usize = 8192;
+
 // 15: whether rows are well formed.
 pub fn well_formed(rows: &[u8]) -> bool
     ensures { λ r. ⌜ r ≡ wellFormed (now (rows .entry)) ⌝ }
 {
-    if wrong_size(rows) {
+    if meaning::wrong_size(rows, MOST_BYTES) {
         return false;
     }
     let first = at(rows, 0);
@@ -64,16 +66,6 @@ pub fn well_formed(rows: &[u8]) -> bool
         return false;
     }
     go_on(rows, first.state, last.input) && lead_on(rows)
-}
-
-// A length of 0 bytes, not a multiple of 4, or over 8,192.
-fn wrong_size(rows: &[u8]) -> bool
-    ensures { λ r. ⌜ r ≡ wrongSize 8192 (now (rows .entry)) ⌝ }
-{
-    if rows.len() == 0 {
-        return true;
-    }
-    rows.len() % 4 != 0 || 8192 < rows.len()
 }
 
 // Whether each row goes on from the one before it.

@@ -1,10 +1,10 @@
 -- What one record more adds to the states, letters, marks and starts of the table that records state. A state record is the next state of
 -- its side, whose number is the number of states before it. By the laws of appending. Assumes nothing.
-use mathlib.Core.Path.{_≡_, refl, sym, ap, ap₂, _∙_, subst⁻¹}
+use mathlib.Core.Path.{_≡_, refl, sym, ap, ap₂, _∙_}
 use mathlib.Core.Bool.{Bool, _||_, or-true, or-false, false, true}
 use mathlib.Core.List.{List, [], _∷_, _++_, append-nil}
 use Prim.Native.Nat.{ℕ, suc, _+_, _≤_, _<_, max}
-use native.Mathlib.Decide.{decLt, ℕ-discrete}
+use native.Mathlib.Decide.{decLt}
 use native.Mathlib.Numerals.{add-one}
 use native.Mathlib.Omega.{arith}
 use lib.ListN.{length, getD, take, set, length-append, length-take, length-set, List·getD-append, List·getD-eq-default}
@@ -16,18 +16,11 @@ use Rattle.meaning.specs.Records.{Record, at, blank, ofKind, controller}
 use Rattle.meaning.specs.Table.{letters, markOf, startsOf, bit, markIn, startIn}
 use Rattle.meaning.proofs.Tests.{largest-same}
 use Rattle.meaning.proofs.Lists.{keep-append, tab-length, tab-at, tab-same}
+use Rattle.meaning.proofs.Searches.{at-each}
 use Rattle.meaning.proofs.Sizes.{keep-length}
 use Rattle.masks.specs.Mask.{mask}
 use Rattle.masks.proofs.Masks.{mask-same, bit-of-mask}
 use Rattle.table.specs.Packed.{marks}
-
--- what holds at one place, and at every other
-at-each : (P : ℕ → Type 0) (k : ℕ) → P k → ((j : ℕ) → (j ≡ k → ⊥) → P j) → (j : ℕ) → P j
-at-each P k here elsewhere j = go (ℕ-discrete j k)
-  where
-    go : Dec (j ≡ k) → P j
-    go (yes e) = subst⁻¹ P e here
-    go (no e) = elsewhere j e
 
 -- the records of a kind
 pub ofKind-around : (kind : ℕ) (rs : List Record) (r : Record) (ss : List Record) → r .kind ≡ kind

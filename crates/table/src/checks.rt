@@ -11,10 +11,13 @@ ghost use mathlib.Core.List.{[]};
 ghost use Rattle.meaning.specs.Lists.{place, each};
 ghost use Rattle.meaning.specs.Records.{recordsOf, ofKind, outside};
 ghost use Rattle.meaning.specs.Table.{tableOf};
-ghost use Rattle.meaning.specs.Checks.{wrongSize, descent, misnumbered as notNumbered, noStart, dangling as danglingEdge, gap as gapOf};
+ghost use Rattle.meaning.specs.Checks.{descent, misnumbered as notNumbered, noStart, dangling as danglingEdge, gap as gapOf};
 ghost use Rattle.table.specs.Packed.{recordIn, tableIn, packed, hasEdge};
 ghost use Rattle.table.specs.declared.Checked.the-variants.{Fails};
 ghost use Rattle.table.specs.Checked.{reading, readingOf};
+
+// 4: the longest table.
+const MOST_BYTES: usize = 4160;
 
 // The table, or the first check that fails and its place: the record number, from 0, for 5, 6 and
 // 9, and otherwise 0.
@@ -22,7 +25,7 @@ pub fn check(bytes: &[u8]) -> Reading
     ensures { λ r. ⌜ r ≡ readingOf (now (bytes .entry)) ⌝ }
 {
     let records = bytes.len() / 4;
-    if wrong_length(bytes) {
+    if meaning::wrong_size(bytes, MOST_BYTES) {
         return refused(Refusal::Length, 0);
     }
     let bad = first_outside(bytes);
@@ -76,16 +79,6 @@ fn refused(refusal: Refusal, place: usize) -> Reading
         checked: Checked::Fails(refusal, place),
         table,
     }
-}
-
-// 4: a table of 0 bytes, not a multiple of 4, or over 4,160.
-fn wrong_length(bytes: &[u8]) -> bool
-    ensures { λ r. ⌜ r ≡ wrongSize 4160 (now (bytes .entry)) ⌝ }
-{
-    if bytes.len() == 0 {
-        return true;
-    }
-    bytes.len() % 4 != 0 || 4160 < bytes.len()
 }
 
 // 5: the first record with a byte outside the table of limits, or the number of records.

@@ -7,14 +7,11 @@ use mathlib.Core.List.{List}
 use Prim.Native.Nat.{ℕ, _≤_}
 use borrow.Author.Tests.{not-true, not-false}
 use denote.Ref.{now}
-use lib.Dec.{ltb}
-use Rattle.meaning.specs.Lists.{every}
 use Rattle.meaning.specs.Records.{recordsOf}
 use Rattle.meaning.specs.Table.{Table, stated}
-use Rattle.meaning.specs.Written.{Row}
 use Rattle.meaning.specs.Checks.{tableChecks, Passes}
 use Rattle.meaning.specs.Play.{rowsIn}
-use Rattle.meaning.specs.Controller.{wellFormed}
+use Rattle.meaning.specs.Controller.{wellFormed, ofLetters}
 use Rattle.meaning.proofs.Realizes.{start-declared}
 use Rattle.meaning.proofs.Sound.{passes-good, passes-small}
 use Rattle.table.specs.Packed.{tableIn}
@@ -62,11 +59,11 @@ formed c = sym (c .before .well-formed .ensures) ∙ not-false _ (c .if2 .left)
 letters : (c : tie.After-of-letters) →
     let told = c .before .before .before .before in
     c .of-letters .result
-    ≡ every (λ (r : Row). ltb (r .output) (stated (bytes told) .outputs)) (rowsIn (now (start told .args .rows)))
+    ≡ ofLetters (stated (bytes told) .outputs) (rowsIn (now (start told .args .rows)))
 letters c =
     let told = c .before .before .before .before in
     c .of-letters .ensures
-    ∙ ap (λ (n : ℕ). every (λ (r : Row). ltb (r .output) n) (rowsIn (now (start told .args .rows)))) (same-outputs told)
+    ∙ ap (λ (n : ℕ). ofLetters n (rowsIn (now (start told .args .rows)))) (same-outputs told)
 
 -- where 13 has passed
 followable : (c : tie.Else4) →

@@ -49,7 +49,7 @@ answered : (bytes : List ℕ) {checked : Checked} → checked ≡ checkedOf (tab
 answered bytes = ap (reading (packed (tableOf (recordsOf bytes))))
 
 -- the bytes, at the place where each check has been tried
-abbrev bytes-4 : tie.After-wrong-length → List ℕ
+abbrev bytes-4 : tie.After-wrong-size → List ℕ
 bytes-4 c = now (c .before .before .args .bytes)
 
 abbrev bytes-6 : tie.After-first-descent → List ℕ
@@ -69,7 +69,7 @@ bytes-10 c = bytes-9 (c .before .before)
 
 after-4 : (c : tie.Else1) → Left 1 (bytes-4 (c .before))
 unfolding tableChecks
-after-4 c = check-passes (tableChecks 0 (bytes-4 (c .before))) 0 (lit< tt) (sym (c .before .wrong-length .ensures) ∙ c .if1 .left)
+after-4 c = check-passes (tableChecks 0 (bytes-4 (c .before))) 0 (lit< tt) (sym (c .before .wrong-size .ensures) ∙ c .if1 .left)
 
 none-outside : (c : tie.Else2) → let rs = recordsOf (bytes-6 (c .before)) in ltb (place outside rs) (length rs) ≡ false
 none-outside c = at-none (bytes-6 (c .before)) _ _ (c .before .before .first-outside .ensures) (c .if2 .left)
@@ -131,8 +131,8 @@ after-9 c =
 gaps : (c : tie.After-gap) → gap (tableOf (recordsOf (bytes-10 c))) ≡ c .gap .result
 gaps c = ap gap (sym (same-table (c .before .before .before .before .before))) ∙ sym (c .gap .ensures)
 
-wrong-length-requires : tie.Need-wrong-length-requires
-wrong-length-requires c κs = search needs
+wrong-size-requires : tie.Need-wrong-size-requires
+wrong-size-requires c κs = search needs
 
 refused-requires : tie.Need-refused-requires
 refused-requires c κs = search needs
@@ -143,7 +143,7 @@ returns c =
     let tried = c .before .before in
     let bytes = bytes-4 tried in
     c .refused .ensures
-    ∙ answered bytes (check-fails (tableChecks 0 bytes) 0 (lit< tt) (sym (tried .wrong-length .ensures) ∙ c .before .if1 .taken))
+    ∙ answered bytes (check-fails (tableChecks 0 bytes) 0 (lit< tt) (sym (tried .wrong-size .ensures) ∙ c .before .if1 .taken))
 
 first-outside-requires : tie.Need-first-outside-requires
 first-outside-requires c κs = search needs
@@ -263,7 +263,7 @@ pub check-spec : {M : Type 1} → statement M
 check-spec =
     tie.close
     (tie.spec
-    wrong-length-requires
+    wrong-size-requires
     refused-requires
     returns
     first-outside-requires

@@ -1,8 +1,8 @@
 -- `wrong_size` is its three tests in turn. Assumes nothing.
 use borrow.Author.Tests.{eq-eqb, ne-eqb}
 use Rattle.meaning.specs.Checks.{wrongSize}
-use Rattle.rows.proofs.wrong_size.Statement.{statement}
-use Rattle.rows.proofs.wrong_size.Tie as tie
+use Rattle.meaning.proofs.wrong_size.Statement.{statement}
+use Rattle.meaning.proofs.wrong_size.Tie as tie
 
 returns : tie.Need-returns
 unfolding wrongSize
