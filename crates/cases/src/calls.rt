@@ -10,7 +10,7 @@ ghost use lib.Dec.{eqb};
 ghost use Rattle.io.specs.Counts.{Counts};
 ghost use Rattle.meaning.specs.Answers.{codeOf, join as joinOf};
 
-// C1 to C12 of document 01, with its K and N.
+// C1 to C12 of document 01, with its K and N; C6 as R-2 of document 02 amends it, and FIRST at K 1.
 pub fn document() {
     let owed = OWED;
     let silent = SILENT;
@@ -24,6 +24,7 @@ pub fn document() {
     small(b"C4", &both[..n], 0, 1);
     parts(b"C5", &owed, &silent, 0, 2);
     small(b"C6", &first, 0, 1);
+    small(b"FIRST at K 1", &first, 1, 1);
     small(b"C7", &owed, 8, 1);
     small(b"C8", &owed, 7, 0);
     small(b"C9", &owed[..0], 0, 1);

@@ -1,10 +1,11 @@
 // Runs tables of each refusal through the checks and prints code and place; then document 01's calls,
-// three hard tables, and joins and parts, and prints answers and bytes; and last checks controllers
-// from elsewhere. What it prints is held to the stored output.
+// three hard tables, and joins and parts, and prints answers and bytes; then checks controllers from
+// elsewhere; and last tables with marked start states. What it prints is held to the stored output.
 mod calls;
 mod joins;
 mod makers;
 mod print;
+mod starts;
 mod tables;
 
 use crate::tables::OWED;
@@ -104,4 +105,8 @@ fn main() {
     makers::table_refused();
     makers::rows_refused();
     makers::letters_refused();
+    starts::several();
+    starts::again();
+    starts::parts();
+    starts::refused();
 }

@@ -9,8 +9,8 @@ use crate::tables::SILENT;
 use table::record::INPUT;
 ghost use Rattle.io.specs.Counts.{Counts};
 
-// What the solver writes, checked at the K that it was written for; and LAMP's at a smaller one, which is
-// too small for it.
+// What the solver writes, checked at the K that it was written for; and FIRST's and LAMP's at a smaller
+// one, which is too small for them.
 pub fn written() {
     let owed = OWED;
     let silent = SILENT;
@@ -18,7 +18,8 @@ pub fn written() {
     let prompt = PROMPT;
     solved(b"C1's rows", &owed, 0, 0);
     solved(b"C2's rows", &silent, 0, 0);
-    solved(b"C6's rows", &first, 0, 0);
+    solved(b"FIRST's rows for K 1", &first, 1, 1);
+    solved(b"FIRST's rows for K 1", &first, 1, 0);
     solved(b"PROMPT's rows", &prompt, 0, 0);
     let mut table = [0u8; 4161];
     let n = calls::read(b"lamp.tab", &mut table);
@@ -38,12 +39,12 @@ pub fn right() {
     checked(b"gives the larger of two outputs", &table[..n], 0, b"5105");
 }
 
-// Wrong rows: for a table that enters its marked start again with each input, and for OWED. The last two
+// Wrong rows: for a table that comes to its marked start again with each input, and for OWED. The last two
 // overrun only when a state is met again, with a larger count.
 pub fn wrong() {
     let mut table = [0u8; 16];
     let n = spelled(b"1030 2000 3000 4000", &mut table);
-    checked(b"enters a mark by an input", &table[..n], 7, b"0000");
+    checked(b"comes to a mark by an input", &table[..n], 7, b"0000");
     kept(b"puts off for ever", 0, b"0000 0010");
     kept(b"puts off for ever", 7, b"0000 0010");
     kept(b"puts off once", 0, b"0000 0011 1002 1012 2102 2112");
@@ -52,7 +53,7 @@ pub fn wrong() {
 }
 
 // The longest rows there are, of 256 states: a ring that gives output 0; and one that gives output 1 in
-// its last state alone, which costs an entry a turn. At K 7 that is one too many in the eighth turn.
+// its last state alone, which costs a visit a turn. At K 7 that is one too many in the eighth turn.
 pub fn longest() {
     let mut table = [0u8; 84];
     let n = spelled(
@@ -65,7 +66,7 @@ pub fn longest() {
     print::sizes(rows::states(&quiet), rows::inputs(&quiet));
     let loud = ring(1);
     let overrun = checker::check(&table[..n], 7, &loud);
-    print::checked(b"a ring that costs an entry a turn", 7, overrun);
+    print::checked(b"a ring that costs a visit a turn", 7, overrun);
 }
 
 // 2, then 4 to 10 of the table: the rows are at fault too.
@@ -125,7 +126,7 @@ fn solved(name: &[u8], table: &[u8], made_for: usize, k: usize) {
 }
 
 // Checks rows in digits against a table.
-fn checked(name: &[u8], table: &[u8], k: usize, digits: &[u8]) {
+pub fn checked(name: &[u8], table: &[u8], k: usize, digits: &[u8]) {
     let mut rows = [0u8; 32];
     let n = spelled(digits, &mut rows);
     print::checked(name, k, checker::check(table, k, &rows[..n]));
@@ -145,7 +146,7 @@ fn faulty(name: &[u8], digits: &[u8]) {
 }
 
 // Writes digits as bytes, a digit a byte, and answers how many there are. Blanks are passed over.
-fn spelled(digits: &[u8], out: &mut [u8]) -> usize
+pub fn spelled(digits: &[u8], out: &mut [u8]) -> usize
     ensures { λ n. ⌜ Counts n (now (out .exit)) ⌝ }
 {
     let mut n = 0;

@@ -108,7 +108,7 @@ pub const SILENT: [u8; 48] = [
     1,
 ];
 
-// FIRST: the mark of the start state is not counted at the start.
+// FIRST: the start state is marked, and a run visits it once.
 pub const FIRST: [u8; 24] = [
     1,
     0,

@@ -4,7 +4,7 @@ pub mod Room
 pub mod Raising
 pub mod Leading
 pub mod Stated
-pub mod Visiting
+pub mod Stepping
 pub mod Tracks
 pub mod InOrder
 pub mod Demands

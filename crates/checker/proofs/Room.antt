@@ -65,13 +65,13 @@ flags-down (b ∷ risen) zero l f = rw f
 flags-down (true ∷ risen) (suc s) l f = ap suc (flags-down risen s (le-of-suc-le-suc l) f)
 flags-down (false ∷ risen) (suc s) l f = flags-down risen s (le-of-suc-le-suc l) f
 
--- what falls with each visit: the room, or with the same room the number of flags, of which there are at most 256
+-- what falls each time that a state is led on: the room, or with the same room the number of flags, of which there are at most 256
 abbrev pub ahead : ℕ → List ℕ → List Bool → ℕ
 ahead K most risen = roomOfAll K most * 257 + flags risen
 
-pub visit-less : (K : ℕ) (most most′ : List ℕ) (risen risen′ : List Bool) (s : ℕ) → s < length risen → getD risen s false ≡ true
+pub led-less : (K : ℕ) (most most′ : List ℕ) (risen risen′ : List Bool) (s : ℕ) → s < length risen → getD risen s false ≡ true
     → length risen′ ≡ 256 → Rises K most (set risen s false) most′ risen′ → ahead K most′ risen′ < ahead K most risen
-visit-less K most most′ risen risen′ s l f long =
+led-less K most most′ risen risen′ s l f long =
     ⊎-elim
     (λ (less : roomOfAll K most′ < roomOfAll K most). omega (arith, keep-length (λ b. b) risen′))
     (λ same. rw (same .0, same .1) (omega (arith, flags-down risen s l f)))

@@ -14,7 +14,7 @@ use Rattle.table.specs.declared.Table as D
 use Rattle.table.specs.Packed.{edgeIn, tableIn}
 use Rattle.table.proofs.Unpacked.{no-ninth-letter}
 use Rattle.checker.specs.Followable.{Followable}
-use Rattle.checker.specs.Visited.{Steps}
+use Rattle.checker.specs.LedByRound.{Steps}
 
 -- one half, of bytes of targets and marks
 stated : (bytes marks spreads : List ℕ) (word letter sources targets : ℕ) → SpreadsOf bytes spreads → countsIn word ≡ markCounts marks

@@ -1,5 +1,5 @@
 -- The invariant of the whole check (`Tracks`): the counts of each controller state are attained by runs, safe, and over the start; and a state
--- that is not flagged leads, with each input, to counts that are not above the next state's. It holds at the start, each visit keeps it, and
+-- that is not flagged leads, with each input, to counts that are not above the next state's. It holds at the start, leading a state on keeps it, and
 -- where no state is flagged the counts are closed, so that the rows keep every run to K. An overrun from attained counts shows that they
 -- don't. Assumes nothing.
 use mathlib.Core.Path.{_≡_, refl, sym, ap, _∙_}
@@ -33,7 +33,7 @@ use Rattle.counts.proofs.Wide.{wide-count}
 use Rattle.counts.proofs.Packing.{low-counts}
 use Rattle.checker.specs.Followable.{Followable}
 use Rattle.checker.specs.Raised.{countsAt, flagAt}
-use Rattle.checker.specs.Visited.{ForAll, ledTo, Visited, Overruns}
+use Rattle.checker.specs.LedByRound.{ForAll, ledTo, AllLed, Overruns}
 use Rattle.checker.proofs.Counts.{counts-here, counts-elsewhere, counts-nowhere}
 use Rattle.checker.proofs.Room.{each-refuted}
 
@@ -50,8 +50,8 @@ pub fitting : {K : ℕ} {t : Table} {bytes : List ℕ} → Followable K t bytes 
 fitting {bytes = bytes} f = record { formed = formed bytes (f .formed); outputs = f .outputs; inputs = f .inputs }
 
 -- the start position has room in a word
-pub start-low : (K : ℕ) (t : Table) → t .controllers ≤ 8 → every (λ c. leb c 127) (positionBytes (startPosition K t)) ≡ true
-start-low K t few =
+pub start-low : (K : ℕ) (t : Table) → K ≤ 7 → t .controllers ≤ 8 → every (λ c. leb c 127) (positionBytes (startPosition K t)) ≡ true
+start-low K t patience few =
     low-counts (positionBytes (startPosition K t))
     (λ q. ⊎-elim (λ (e : count (positionBytes (startPosition K t)) q ≡ 0). omega arith)
     (λ c. let same = wide-count (startPosition K t) (rw (start-length K t) few) q in
@@ -83,7 +83,8 @@ module _ (K : ℕ) (t : Table) (rows : List Row) where
 
   -- at the start: the start position in the first state, which alone is flagged, and nowhere in the others
   module _ (few : t .controllers ≤ 8) (first : ℕ) (is-first : first ≡ firstState rows) (low : first < 256) (m : ℕ)
-      (e : countsIn m ≡ positionBytes (startPosition K t)) (has : hasRows rows (firstState rows) ≡ true) where
+      (e : countsIn m ≡ positionBytes (startPosition K t)) (has : hasRows rows (firstState rows) ≡ true)
+      (safely : safe K (countsIn m) ≡ true) where
     abbrev most₀ : List ℕ
     most₀ = set (replicate 256 0) first m
 
@@ -117,9 +118,7 @@ module _ (K : ℕ) (t : Table) (rows : List Row) where
         }
       where
         go-safe : (s : ℕ) → Dec (s ≡ first) → safe K (countsAt most₀ s) ≡ true
-        go-safe s (yes f) =
-            rw f (safe-where K (countsAt most₀ first)
-            (λ q c. omega (arith, started q, count-start K t q (omega (arith, started q)) .1)))
+        go-safe s (yes f) = rw (f, counts-here (replicate 256 0) first m low) safely
         go-safe s (no d) = safe-of K (countsAt most₀ s) (λ q _. omega (arith, elsewhere s d q))
 
         go-attained : (s q : ℕ) → 0 < count (countsAt most₀ s) q → Dec (s ≡ first) → Attained t rows s q (count (countsAt most₀ s) q)
@@ -138,9 +137,9 @@ module _ (K : ℕ) (t : Table) (rows : List Row) where
         go-closed s i (no d) = inr (λ q. omega (arith, none-led s (countsAt most₀ s) (elsewhere s d) i q))
 
   module _ (most : List ℕ) (risen : List Bool) (tracks : Tracks K t rows most risen) where
-    -- a visit of a flagged state, whose flag was taken down before
+    -- a flagged state led on, its flag taken down before
     module _ (fits : Fitting t rows) (s : ℕ) (low : s < length risen) (flag : flagAt risen s ≡ true) (most′ : List ℕ)
-        (risen′ : List Bool) (visited : Visited K t rows s most (set risen s false) most′ risen′) where
+        (risen′ : List Bool) (led : AllLed K t rows s most (set risen s false) most′ risen′) where
       down : flagAt (set risen s false) s ≡ false
       down = getD-set-same risen s false false low
 
@@ -150,19 +149,19 @@ module _ (K : ℕ) (t : Table) (rows : List Row) where
       led-attained r q c i e same =
           attained-as e (sym same) (round-attained K t rows s i (countsAt most s) (tracks .attained s) q (omega (arith, same)))
 
-      pub tracks-visit : Tracks K t rows most′ risen′
-      tracks-visit =
+      pub tracks-led : Tracks K t rows most′ risen′
+      tracks-led =
           record {
-            begins = λ q. le-trans (tracks .begins q) (visited .over (firstState rows) q);
+            begins = λ q. le-trans (tracks .begins q) (led .over (firstState rows) q);
             safely = λ r.
                 safe-of K (countsAt most′ r)
                 (λ q _. ⊎-elim (λ (same : count (countsAt most′ r) q ≡ count (countsAt most r) q). omega (arith, safe-at K _ (tracks .safely r) q))
-                (λ w. omega (arith, w .3, safe-at K _ (visited .safely (w .0) (w .1)) q)) (visited .came r q));
+                (λ w. omega (arith, w .3, safe-at K _ (led .safely (w .0) (w .1)) q)) (led .came r q));
             attained = λ r q c.
                 ⊎-elim (λ same. attained-as refl (sym same) (tracks .attained r q (omega (arith, same))))
-                (λ w. led-attained r q c (w .0) (w .2) (w .3)) (visited .came r q);
-            named = λ r f. ⊎-elim (λ g. tracks .named r (kept r g (ℕ-discrete r s))) (λ w. rw (← w .2) (next-named (w .0) (w .1))) (visited .named r f);
-            closed = λ r i h l. ⊎-elim (λ f. inl f) (λ same. stays r i h l same (ℕ-discrete r s)) (visited .flagged r);
+                (λ w. led-attained r q c (w .0) (w .2) (w .3)) (led .came r q);
+            named = λ r f. ⊎-elim (λ g. tracks .named r (kept r g (ℕ-discrete r s))) (λ w. rw (← w .2) (next-named (w .0) (w .1))) (led .named r f);
+            closed = λ r i h l. ⊎-elim (λ f. inl f) (λ same. stays r i h l same (ℕ-discrete r s)) (led .flagged r);
           }
         where
           kept : (r : ℕ) → flagAt (set risen s false) r ≡ true → Dec (r ≡ s) → flagAt risen r ≡ true
@@ -176,10 +175,10 @@ module _ (K : ℕ) (t : Table) (rows : List Row) where
               → (countsAt most′ r ≡ countsAt most r) × (flagAt risen′ r ≡ flagAt (set risen s false) r) → Dec (r ≡ s)
               → (flagAt risen′ r ≡ true)
               ⊎ ((q : ℕ) → count (ledTo K t rows r (countsAt most′ r) i) q ≤ count (countsAt most′ (rowNext rows r i)) q)
-          stays r i h l same (yes e) = inr (rw (same .0, e) (visited .covers i l))
+          stays r i h l same (yes e) = inr (rw (same .0, e) (led .covers i l))
           stays r i h l same (no d) =
               ⊎-elim (λ f. inl (same .1 ∙ getD-set-other risen s r false false d ∙ f))
-              (λ under. inr (rw (same .0) (λ q. le-trans (under q) (visited .over (rowNext rows r i) q))))
+              (λ under. inr (rw (same .0) (λ q. le-trans (under q) (led .over (rowNext rows r i) q))))
               (tracks .closed r i h l)
 
     -- an overrun shows that following the rows does not keep every run to K

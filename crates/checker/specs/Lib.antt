@@ -1,4 +1,4 @@
 -- What the contracts of this crate cite beside the definitions of the crates below.
 pub mod Followable
 pub mod Raised
-pub mod Visited
+pub mod LedByRound

@@ -1,5 +1,5 @@
 // The largest counts of the runs that can be in each controller state, raised until nothing changes.
-use crate::visit;
+use crate::lead;
 use counts::position;
 use counts::word;
 use table::Table;
@@ -12,7 +12,7 @@ ghost use Rattle.meaning.specs.Controller.{followed};
 ghost use Rattle.table.specs.Packed.{tableIn};
 ghost use Rattle.checker.specs.Followable.{Followable};
 
-// Whether following the rows keeps every run to k. Only a state whose counts have risen is visited
+// Whether following the rows keeps every run to k. Only a state whose counts have risen is led on
 // again, and each of its eight counts can rise k + 2 times.
 pub fn keeps(table: Table, k: usize, rows: &[u8]) -> bool
     requires { ⌜ Followable k (tableIn table) (now rows) ⌝ }
@@ -28,9 +28,13 @@ pub fn keeps(table: Table, k: usize, rows: &[u8]) -> bool
     let out_marks = word::marks(world_marks);
     let in_spreads = word::spreads(input_targets);
     let in_marks = word::marks(controller_marks);
+    let begins = word::pack(&position::start(table.starts, controller_marks, table.controllers, k));
+    if !word::safe(begins, k) {
+        return false;
+    }
     let mut most = [0u64; 256];
     let mut risen = [false; 256];
-    most[first] = word::pack(&position::start(table.starts, table.controllers, k));
+    most[first] = begins;
     risen[first] = true;
     loop {
         let s = first_risen(&risen);
@@ -38,7 +42,7 @@ pub fn keeps(table: Table, k: usize, rows: &[u8]) -> bool
             return true;
         }
         risen[s] = false;
-        if !visit::visit(
+        if !lead::by_round(
             k,
             rows,
             &places,

@@ -1,7 +1,7 @@
 // Whether following rows, whoever made them, keeps every run of a table to K.
 pub mod keep;
+pub mod lead;
 pub mod most;
-pub mod visit;
 
 use meaning::Answer;
 use meaning::Refusal;

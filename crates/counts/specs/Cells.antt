@@ -49,6 +49,6 @@ halfOf h =
 abbrev pub brought : ℕ → Half → List ℤ → ℕ → ℕ → ℕ
 brought K h m q p = cond (bit (getD (h .masks) p 0) q) (plus K (getD (h .marks) q 0) (cell m p)) 0
 
--- the start position that a mask of start states gives a side of n states
-unfoldable pub startCounts : ℕ → ℕ → ℕ → Position
-startCounts K n starts = tab n (λ q. cond (bit starts q) (plus K 0 1) 0)
+-- the start position that a mask of start states gives a side of n states with these marks
+unfoldable pub startCounts : ℕ → ℕ → ℕ → List ℕ → Position
+startCounts K n starts marks = tab n (λ q. cond (bit starts q) (plus K (getD marks q 0) 1) 0)

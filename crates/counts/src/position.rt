@@ -81,17 +81,17 @@ pub fn brim(k: usize, n: usize) -> [i8; 8]
     out
 }
 
-// The start position of a side of n states: 0 plus no mark at each start state.
-pub fn start(starts: u8, n: usize, k: usize) -> [i8; 8]
+// The start position of a side of n states: at each start state 0 plus its mark, capped as any count.
+pub fn start(starts: u8, marks: [u8; 8], n: usize, k: usize) -> [i8; 8]
     requires { ⌜ k ≤ 7 ⌝ }
-    ensures { λ r. ⌜ cells r ≡ positionBytes (startCounts k n starts) ⌝ }
+    ensures { λ r. ⌜ cells r ≡ positionBytes (startCounts k n starts marks) ⌝ }
 {
     let mut out = [-1i8; 8];
     let mut q = 0;
     while q < 8 {
         if q < n {
             if masks::has(starts, q) {
-                out[q] = count::plus(0, 0, k);
+                out[q] = count::plus(0, marks[q], k);
             }
         }
         q += 1;

@@ -32,10 +32,11 @@ pub fn finish(
         return meaning::refused(Refusal::Nothing, 0, 0);
     }
     writing::write_winners(list, n, winners);
+    let marks = table.controller_marks;
     let start = writing::covering(
         list,
         n,
-        &position::start(table.starts, table.controllers, k),
+        &position::start(table.starts, marks, table.controllers, k),
     );
     if n <= start {
         return Answer {

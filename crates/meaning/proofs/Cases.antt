@@ -1,6 +1,6 @@
--- C1 to C12 of document 01, as one list under a single statement: each call's outcome, computed by the definitions, is what the paper
--- gives. "K is 0 and N is 2 where not given, and every lent buffer has room": both buffers have room for N 2 and hold 9s before.
--- Shown by computation.
+-- C1 to C12 of document 01, C6 as R-2 of document 02 amends it, and beside it the same table at K 1: one list under a single statement, that
+-- each call's outcome, computed by the definitions, is what the papers give. "K is 0 and N is 2 where not given, and every lent buffer has
+-- room": both buffers have room for N 2 and hold 9s before. Shown by computation.
 use mathlib.Core.Path.{_≡_, refl}
 use mathlib.Core.List.{List, [], _∷_, _++_, map, flatMap}
 use Prim.Native.Nat.{ℕ}
@@ -92,6 +92,7 @@ calls =
     ∷ solvingJoined owed silent 0 1
     ∷ byParts owed silent 0 2
     ∷ solving firstTable 0 1
+    ∷ solving firstTable 1 1
     ∷ solving owed 8 1
     ∷ solving owed 7 0
     ∷ solving [] 0 1
@@ -111,7 +112,8 @@ expected =
     ∷ told Unrealizable 2 2 winnersOfBoth []
     ∷ denied (Refused Full) 0
     ∷ told Unrealizable 2 2 winnersOfBoth []
-    ∷ told (Realizable 0) 0 1 (1 ∷ 1 ∷ replicate 6 0) (record4 0 0 0 0)
+    ∷ told Unrealizable 0 1 (1 ∷ 1 ∷ replicate 6 0) []
+    ∷ told (Realizable 0) 0 1 (2 ∷ 2 ∷ replicate 6 0) (record4 0 0 0 0)
     ∷ denied (Refused Bound) 0
     ∷ denied (Refused Room) 0
     ∷ denied (Refused Length) 0

@@ -9,14 +9,17 @@ use Prim.Native.Nat.{ℕ}
 use Rattle.meaning.specs.declared.Answer.{Answer}
 use Rattle.meaning.specs.declared.Verdict.{Verdict}
 use Rattle.meaning.specs.declared.Verdict.the-variants.{Realizable, Unrealizable}
+use Rattle.meaning.specs.Table.{stated}
+use Rattle.meaning.specs.Counting.{safe, startPosition}
 use Rattle.meaning.specs.Checks.{Check, Passes}
 use Rattle.meaning.specs.Answers.{startOf, refused}
 use Rattle.meaning.specs.Controller.{checkChecks, verdictOn, Found, CheckCall}
-use Rattle.meaning.specs.Calls.{Unrefused}
+use Rattle.meaning.specs.Calls.{code, Unrefused}
 use Rattle.meaning.specs.Demands.{Refuses, Judges}
 use Rattle.meaning.proofs.Tests.{clash, refuted, same-test}
 use Rattle.meaning.proofs.Checks.{Failure, first-failure, judge-fails, judge-passes, Judged, judged}
 use Rattle.meaning.proofs.Codes.{code-refused, code-realizable, code-unrealizable}
+use Rattle.meaning.proofs.Realizes.{realizes-safe}
 use Rattle.meaning.proofs.Answers.{cond-realizable, cond-unrealizable, cond-granted}
 
 abbrev verdictIn : Answer → Verdict
@@ -98,3 +101,7 @@ module _ {bytes : List ℕ} {K : ℕ} {rows : List ℕ} where
         zeros (inl p) u = rw (check-told .grants p) (refl, refl, refl, refl, start-zero (call .promise .right))
         zeros (inr f) u =
             absurd (u (f .1 .refusal) (code-refused _ (f .1 .refusal) .1 (check-told .refused-exactly (f .1 .refusal) .1 (f .0, f .1, f .2, refl))))
+
+    -- where the start position is not safe (R-2), no rows are right
+    pub unsafe-check : Passes (checkChecks bytes K rows) → safe K (startPosition K (stated bytes)) ≡ false → code (call .answer) ≡ 1
+    unsafe-check p unsafe = check-judges .wrong-exactly .1 (p, λ r. clash _ (realizes-safe K (stated bytes) _ r) unsafe)

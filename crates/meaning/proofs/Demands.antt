@@ -9,16 +9,17 @@ use Prim.Native.Nat.{ℕ, _<_}
 use lib.ListN.{length, take, drop}
 use Rattle.meaning.specs.declared.Refusal.the-variants.{Full}
 use Rattle.meaning.specs.Records.{Record, recordsOf}
-use Rattle.meaning.specs.Table.{stated, tableOf}
-use Rattle.meaning.specs.Counting.{Position}
-use Rattle.meaning.specs.Rounds.{allSafe}
+use Rattle.meaning.specs.Table.{Table, stated, tableOf}
+use Rattle.meaning.specs.Counting.{Position, safe, startPosition}
+use Rattle.meaning.specs.Rounds.{Set, allSafe}
 use Rattle.meaning.specs.Join.{joined, joinedTable, joinedBytes, pairs}
 use Rattle.meaning.specs.Checks.{Passes, bound, tableChecks, solveChecks, joinChecks, partsChecks}
-use Rattle.meaning.specs.Answers.{refused, Joined, joinedInto}
+use Rattle.meaning.specs.Answers.{refused, Solved, Joined, joinedInto}
 use Rattle.meaning.specs.Play.{Wins}
 use Rattle.meaning.specs.Calls.{SolveCall, PartsCall, JoinCall, code, Unrefused, Accepted, AcceptedJoin}
 use Rattle.meaning.specs.Calls.{SameResult, SameNumbers, wrote, Two, Three, controllerAcross, worldAcross, recordAcross}
 use Rattle.meaning.specs.Demands.{Refuses, Solves, TableFull, PartsFull}
+use Rattle.meaning.proofs.Tests.{clash}
 use Rattle.meaning.proofs.Records.{records-back}
 use Rattle.meaning.proofs.Codes.{code-refused}
 use Rattle.meaning.proofs.Checks.{refusal-leaves}
@@ -29,6 +30,7 @@ use Rattle.meaning.proofs.Union.{controllers-sum, worlds-sum}
 use Rattle.meaning.proofs.JoinOrder.{across-twice, joined-swapped}
 use Rattle.meaning.proofs.Join.{joined-union, joined-passes, join-makes, join-grants, bytes-grouped, pair-swapped, pair-then}
 use Rattle.meaning.proofs.Join.{pair-after, pairs-win-alone, wins-alone}
+use Rattle.meaning.proofs.Realizes.{realizes-safe}
 use Rattle.meaning.proofs.Stages.{stage-solves, solve-stage, parts-stage, stage-refuses}
 use Rattle.meaning.proofs.Full.{solve-full, parts-full}
 use Rattle.meaning.proofs.Afresh.{parts-agree}
@@ -69,6 +71,11 @@ module _ (one two : List ℕ) (K N : ℕ) (call : PartsCall one two K N) where
   parts-full-exactly b accepted p =
       Iff·trans (parts-refuses .in-order Full)
       (parts-full one two K N (call .lent .winnersBefore) (call .lent .controllerBefore) b accepted p)
+
+-- a start position that is not safe (document 02, R-2) is not covered: "unrealizable", whatever the first set
+pub unsafe-start : (K : ℕ) (t : Table) (X : Set) (s : Solved) → Solves K t X s → safe K (startPosition K t) ≡ false → code (s .answer) ≡ 1
+unsafe-start K t X s solves unsafe =
+    solves .unrealizable-exactly .1 (λ r. clash _ (realizes-safe K t (r .0) (r .1)) unsafe)
 
 -- a join
 pub join-refuses : (one two : List ℕ) (call : JoinCall one two)

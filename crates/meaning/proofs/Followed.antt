@@ -60,7 +60,7 @@ closed-realizes K t rows most good declared fits c =
     (counts-keep K t good rows first most (λ s. hasRows rows s ≡ true) (first-has rows (fits .formed))
     (λ s i l on. next-has rows (fits .formed) s on i (omega (arith, last i l))) (c .safely) (λ s i l on. c .closed s i on l)))
 
--- a run that is in a controller state and a table state with at least this count
+-- a run from a start state that is in a controller state and a table state with at least this count, its first state's mark included
 pub record Attained (t : Table) (rows : List Row) (s q c : ℕ) : Type 0 where
   pub inputs : List ℕ
   pub from : ℕ
@@ -68,7 +68,7 @@ pub record Attained (t : Table) (rows : List Row) (s q c : ℕ) : Type 0 where
   pub starts : t .starts from ≡ true
   pub run : Run t (following rows) from inputs q marks
   pub reached : stateReached rows inputs ≡ s
-  pub counted : c ≤ suc marks
+  pub counted : c ≤ suc (t .controllerMark from + marks)
 
 -- every count of a position is attained in a controller state
 abbrev pub AllAttained : Table → List Row → ℕ → Position → Type 0

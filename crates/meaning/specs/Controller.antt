@@ -91,7 +91,7 @@ followed rows = follow (rowsIn rows) (firstState (rowsIn rows))
 abbrev pub verdictOn : Bool → Answer
 verdictOn right = record { verdict = cond right (Realizable 0) Unrealizable; place = 0; which = 0; rounds = 0; winners = 0 }
 
--- What checking rows comes to: the first check that fails, or "0 if following the rows keeps every run to at most K entries for every
+-- What checking rows comes to: the first check that fails, or "0 if following the rows keeps every run to at most K visits for every
 -- finite input sequence, and 1 if it doesn't". "Right rows are accepted whoever made them.": nothing else is asked of them
 pub record Found (bytes : List ℕ) (K : ℕ) (rows : List ℕ) (answer : Answer) : Type 0 where
   pub right : Bool

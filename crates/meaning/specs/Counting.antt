@@ -54,7 +54,7 @@ unfoldable pub back : ℕ → Half → Position → Position
 back K h F =
     tab (h .sources) (λ p. smallest (K + 1) (h .targets) (λ q. cond (h .edge p q) (count F q - h .mark q) (K + 1)))
 
--- "The start position gives 0 to each start state and -1 to the others. A start state's own mark is not counted there.": count 0
--- plus no mark
+-- Document 02, R-2: "The start position gives 1 to a marked start state and 0 to the others", the other start states: count 0 plus the
+-- state's mark, at most K + 1. States that aren't start states have -1.
 unfoldable pub startPosition : ℕ → Table → Position
-startPosition K t = tab (t .controllers) (λ q. cond (t .starts q) (plus K 0 1) 0)
+startPosition K t = tab (t .controllers) (λ q. cond (t .starts q) (plus K (t .controllerMark q) 1) 0)

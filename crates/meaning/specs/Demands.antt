@@ -1,4 +1,5 @@
 -- Demands 1 and 2 of document 00, a sentence a field: what is asked of every call, and of every call that solves; and R-1 of document 02.
+-- R-2 of document 02 puts "visits" for "entries" in demand 2 and in R-1: a run visits its first state too.
 -- proofs/Demands.antt shows that the calls do so, and demand 3; proofs/Checked.antt R-1.
 use mathlib.Core.Path.{_≡_}
 use mathlib.Core.Logic.{_↔_, _⊎_}
@@ -29,7 +30,7 @@ pub record Refuses (cs : List Check) (answer : Answer) (Untouched : Type 0) : Ty
 -- 2, of a call that solves a table from a first set, "unless refused"
 pub record Solves (K : ℕ) (t : Table) (X : Set) (s : Solved) : Type 0 where
   -- "the answer is "realizable" exactly if some way of choosing outputs from the inputs so far keeps every run of the table to at most K
-  -- entries into marked states, for every finite sequence of inputs", and else unrealizable
+  -- visits into marked states, for every finite sequence of inputs", and else unrealizable
   pub realizable-exactly : (code (s .answer) ≡ 0) ↔ Realizable K t
   pub unrealizable-exactly : (code (s .answer) ≡ 1) ↔ (Realizable K t → ⊥)
   -- "The controller written does so.": its rows, read back from the bytes and followed from the answer's start

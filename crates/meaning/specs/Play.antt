@@ -20,7 +20,7 @@ abbrev pub Legal : Table → Strategy → Type 0
 Legal t σ = (inputs : List ℕ) → σ inputs < t .outputs
 
 -- "every run of the table": a run from controller-turn state p, with the strategy choosing the outputs, that has read these inputs,
--- is now in controller-turn state q, and has added up marks of states entered
+-- is now in controller-turn state q, and has added up the marks of the states entered since
 pub data Run (t : Table) (σ : Strategy) (p : ℕ) : List ℕ → ℕ → ℕ → Type 0 where
   here : Run t σ p [] p 0
   round : {inputs : List ℕ} {q e : ℕ} → Run t σ p inputs q e → (w i r : ℕ) → t .outputEdge (σ inputs) q w ≡ true
@@ -62,10 +62,11 @@ stateAfter rows s (i ∷ inputs) = rowNext rows (stateAfter rows s inputs) i
 unfoldable pub follow : List Row → ℕ → Strategy
 follow rows s inputs = rowOutput rows (stateAfter rows s inputs)
 
--- "keeps every run of the table to at most K entries into marked states, for every finite sequence of inputs": this strategy does
+-- "keeps every run of the table to at most K visits into marked states, for every finite sequence of inputs" (R-2 says visits for entries):
+-- this strategy does. "In the papers a run visits its first state too.": its mark comes to those of the states entered
 pub record Realizes (K : ℕ) (t : Table) (σ : Strategy) : Type 0 where
   pub legal : Legal t σ
-  pub keeps : (p : ℕ) → t .starts p ≡ true → {inputs : List ℕ} {q e : ℕ} → Run t σ p inputs q e → e ≤ K
+  pub keeps : (p : ℕ) → t .starts p ≡ true → {inputs : List ℕ} {q e : ℕ} → Run t σ p inputs q e → t .controllerMark p + e ≤ K
 
 -- "some way of choosing outputs from the inputs so far" does
 abbrev pub Realizable : ℕ → Table → Type 0

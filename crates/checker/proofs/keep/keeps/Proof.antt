@@ -1,5 +1,5 @@
--- `keeps` makes the words of the table's steps, and visits a flagged state until there is none. The loop's invariant is `Tracks`; with each
--- visit the room for the counts to rise falls, or with the same room the number of flags. Assumes nothing.
+-- `keeps` makes the words of the table's steps, and where the start position is safe it leads a flagged state on until there is none. The
+-- loop's invariant is `Tracks`; each time the room for the counts to rise falls, or with the same room the number of flags. Assumes nothing.
 use mathlib.Core.Path.{_≡_, refl, sym, ap, _∙_}
 use mathlib.Core.Bool.{true, false, true≢false}
 use Prim.Native.Nat.{ℕ, _<_}
@@ -8,29 +8,33 @@ use borrow.Author.Needs.{needs}
 use borrow.Author.Tests.{not-true, not-false}
 use denote.Ref.{now}
 use lib.ListN.{length, set, length-set}
-use Rattle.meaning.specs.Counting.{startPosition}
+use Rattle.meaning.specs.Counting.{safe, startPosition}
 use Rattle.meaning.specs.Written.{positionBytes, Row}
-use Rattle.meaning.specs.Play.{rowsIn}
+use Rattle.meaning.specs.Play.{Realizes, rowsIn}
+use Rattle.meaning.proofs.Tests.{clash}
+use Rattle.meaning.proofs.Realizes.{start-length, realizes-safe}
 use Rattle.meaning.proofs.Formed.{first-has}
+use Rattle.meaning.proofs.Followed.{following}
 use Rattle.counts.specs.Cells.{startCounts}
 use Rattle.counts.specs.Words.{countsIn}
 use Rattle.table.specs.Packed.{tableIn}
 use Rattle.checker.specs.Raised.{countsAt, flagAt}
-use Rattle.checker.specs.Visited.{ForAll, Visited, Overruns, Steps}
-use Rattle.checker.proofs.Room.{ahead, visit-less}
+use Rattle.checker.specs.LedByRound.{ForAll, AllLed, Overruns, Steps}
+use Rattle.checker.proofs.Counts.{safe-wide}
+use Rattle.checker.proofs.Room.{ahead, led-less}
 use Rattle.checker.proofs.Stated.{steps-stated}
-use Rattle.checker.proofs.Visiting.{inputs-read}
-use Rattle.checker.proofs.Tracks.{fitting, start-low, flag-up, no-flag, Tracks, arrays-start, tracks-start, tracks-visit}
+use Rattle.checker.proofs.Stepping.{inputs-read}
+use Rattle.checker.proofs.Tracks.{fitting, start-low, flag-up, no-flag, Tracks, arrays-start, tracks-start, tracks-led}
 use Rattle.checker.proofs.Tracks.{tracks-overrun, tracks-end}
 use Rattle.checker.proofs.keep.keeps.Statement.{statement}
 use Rattle.checker.proofs.keep.keeps.Tie as tie
 
 abbrev Inv-loop : tie.InvT-loop
-Inv-loop table k rows places first out-spreads out-marks in-spreads in-marks most₀ risen₀ most risen =
+Inv-loop table k rows places first out-spreads out-marks in-spreads in-marks begins most₀ risen₀ most risen =
     ForAll most risen × Tracks k (tableIn table) (rowsIn rows) most risen
 
 abbrev μ-loop : tie.MeasureT-loop
-μ-loop table k rows places first out-spreads out-marks in-spreads in-marks most₀ risen₀ most risen = ahead k most risen
+μ-loop table k rows places first out-spreads out-marks in-spreads in-marks begins most₀ risen₀ most risen = ahead k most risen
 
 -- the places on the way to the loop: the outputs' words made, the first row read, and the call
 abbrev outs : tie.After-start Inv-loop μ-loop → tie.After-spreads Inv-loop μ-loop
@@ -45,12 +49,26 @@ begin c = row c .before .before .before
 abbrev made : tie.After-pack Inv-loop μ-loop → tie.After-start Inv-loop μ-loop
 made c = c .before .before
 
+abbrev packed : tie.At-loop Inv-loop μ-loop → tie.After-pack Inv-loop μ-loop
+packed c = c .before .before .before
+
 -- the start position, in eight counts
 begun : (c : tie.After-pack Inv-loop μ-loop) →
     let args = begin (made c) .args in
     countsIn (c .pack .result) ≡ positionBytes (startPosition (args .k) (tableIn (args .table)))
 unfolding tableIn startPosition startCounts
 begun c = c .pack .ensures ∙ made c .start .ensures
+
+-- it is safe where following the rows keeps every run to K: a run visits its first state too
+begun-safe : (c : tie.After-pack Inv-loop μ-loop) →
+    let args = begin (made c) .args in
+    Realizes (args .k) (tableIn (args .table)) (following (rowsIn (now (args .rows)))) → safe (args .k) (countsIn (c .pack .result)) ≡ true
+begun-safe c realizes =
+    let start = begin (made c) in
+    let t = tableIn (start .args .table) in
+    rw (begun c) (safe-wide (start .args .k) (startPosition (start .args .k) t)
+    (rw (start-length (start .args .k) t) (start .pre .bounded .small .controllers))
+    ∙ realizes-safe (start .args .k) t _ realizes)
 
 -- and the table's steps, in words
 steps : (c : tie.After-start Inv-loop μ-loop) →
@@ -61,8 +79,8 @@ steps c =
     steps-stated (start .args .k) (start .args .table) (now (start .args .rows)) (start .pre) _ _ _ _ (outs c .spreads .ensures)
     (c .before .before .before .marks .ensures) (c .before .before .spreads2 .ensures) (c .before .marks2 .ensures)
 
--- the state that a turn visits
-module _ (c : tie.After-visit Inv-loop μ-loop) where
+-- the state that a turn leads on
+module _ (c : tie.After-by-round Inv-loop μ-loop) where
   abbrev asked : tie.After-first-risen Inv-loop μ-loop
   asked = c .before .before .before .before .before .before .before
 
@@ -70,13 +88,13 @@ module _ (c : tie.After-visit Inv-loop μ-loop) where
   at = asked .before .before
 
   abbrev start : tie.Start Inv-loop μ-loop
-  start = begin (made (at .before))
+  start = begin (made (packed at))
 
   abbrev state : ℕ
   state = asked .first-risen .result
 
   low : state < 256
-  low = c .before .before .before .before .before .before .if1 .left
+  low = c .before .before .before .before .before .before .if2 .left
 
   flag : flagAt (at .loop .risen) state ≡ true
   flag = flag-up (at .loop .risen) state (asked .first-risen .ensures) (at .loop .inv .0 .flags) low
@@ -84,20 +102,20 @@ module _ (c : tie.After-visit Inv-loop μ-loop) where
   inside : state < length (at .loop .risen)
   inside = omega (arith, at .loop .inv .0 .flags, low)
 
-  arrays : ForAll (c .visit .last .1 .1 .1 .1 .1 .1 .1 .1 .1 .0) (c .visit .last .1 .1 .1 .1 .1 .1 .1 .1 .1 .1 .0)
+  arrays : ForAll (c .by-round .last .1 .1 .1 .1 .1 .1 .1 .1 .1 .0) (c .by-round .last .1 .1 .1 .1 .1 .1 .1 .1 .1 .1 .0)
   arrays =
       record {
-        counts = c .visit .kept .1 .1 .1 .1 .1 .1 .1 .1 .1 .0 ∙ at .loop .inv .0 .counts;
-        flags = c .visit .kept .1 .1 .1 .1 .1 .1 .1 .1 .1 .1 .0 ∙ length-set (at .loop .risen) state false ∙ at .loop .inv .0 .flags;
+        counts = c .by-round .kept .1 .1 .1 .1 .1 .1 .1 .1 .1 .0 ∙ at .loop .inv .0 .counts;
+        flags = c .by-round .kept .1 .1 .1 .1 .1 .1 .1 .1 .1 .1 .0 ∙ length-set (at .loop .risen) state false ∙ at .loop .inv .0 .flags;
       }
 
-  -- what the visit tells of the table
-  visited : (c .visit .result ≡ true → Visited (start .args .k) (tableIn (start .args .table)) (rowsIn (now (start .args .rows))) state
-      (at .loop .most) (set (at .loop .risen) state false) (c .visit .last .1 .1 .1 .1 .1 .1 .1 .1 .1 .0)
-      (c .visit .last .1 .1 .1 .1 .1 .1 .1 .1 .1 .1 .0))
-      × (c .visit .result ≡ false → Overruns (start .args .k) (tableIn (start .args .table)) (rowsIn (now (start .args .rows))) state
+  -- what that tells of the table
+  led : (c .by-round .result ≡ true → AllLed (start .args .k) (tableIn (start .args .table)) (rowsIn (now (start .args .rows))) state
+      (at .loop .most) (set (at .loop .risen) state false) (c .by-round .last .1 .1 .1 .1 .1 .1 .1 .1 .1 .0)
+      (c .by-round .last .1 .1 .1 .1 .1 .1 .1 .1 .1 .1 .0))
+      × (c .by-round .result ≡ false → Overruns (start .args .k) (tableIn (start .args .table)) (rowsIn (now (start .args .rows))) state
       (countsAt (at .loop .most) state))
-  visited = c .visit .ensures (tableIn (start .args .table)) (start .pre) (steps (made (at .before)))
+  led = c .by-round .ensures (tableIn (start .args .table)) (start .pre) (steps (made (packed at)))
 
 places-requires : tie.Need-places-requires Inv-loop μ-loop
 places-requires c κs = fitting (c .before .pre) .formed .few
@@ -127,7 +145,18 @@ pack-requires : tie.Need-pack-requires Inv-loop μ-loop
 unfolding tableIn startPosition startCounts
 pack-requires c κs =
     let first = begin (c .before) in
-    rw (c .before .start .ensures) (start-low (first .args .k) (tableIn (first .args .table)) (first .pre .bounded .small .controllers))
+    rw (c .before .start .ensures) (start-low (first .args .k) (tableIn (first .args .table)) (first .pre .bounded .patience)
+    (first .pre .bounded .small .controllers))
+
+safe-requires : tie.Need-safe-requires Inv-loop μ-loop
+safe-requires c κs = search needs
+
+returns : tie.Need-returns Inv-loop μ-loop
+returns c =
+    let pack = c .before .before in (
+      λ e. absurd (true≢false (sym e)),
+      λ realizes. absurd (clash _ (begun-safe pack realizes) (sym (c .before .safe .ensures) ∙ not-true _ (c .if1 .taken))),
+    )
 
 mul-most : tie.Need-mul-most Inv-loop μ-loop
 mul-most c = search needs
@@ -140,15 +169,17 @@ array-write-risen c = search needs
 
 loop-holds : tie.Need-loop-holds Inv-loop μ-loop
 loop-holds c =
-    let start = begin (made c) in
-    let first = row (made c) .at in
+    let pack = c .before .before in
+    let start = begin (made pack) in
+    let first = row (made pack) .at in
     let t = tableIn (start .args .table) in
     let rows = rowsIn (now (start .args .rows)) in
     let is-first = ap (λ (r : Row). r .state) (first .ensures) in
     let has = first-has rows (fitting (start .pre) .formed) in
-    let few = start .pre .bounded .small .controllers in (
-      arrays-start (start .args .k) t rows few (first .result .state) is-first (omega (arith, first .ok)) (c .pack .result) (begun c) has,
-      tracks-start (start .args .k) t rows few (first .result .state) is-first (omega (arith, first .ok)) (c .pack .result) (begun c) has,
+    let few = start .pre .bounded .small .controllers in
+    let safely = sym (c .before .safe .ensures) ∙ not-false _ (c .if1 .left) in (
+      arrays-start (start .args .k) t rows few (first .result .state) is-first (omega (arith, first .ok)) (pack .pack .result) (begun pack) has safely,
+      tracks-start (start .args .k) t rows few (first .result .state) is-first (omega (arith, first .ok)) (pack .pack .result) (begun pack) has safely,
     )
 
 slice-aggregate-first-risen : tie.Need-slice-aggregate-first-risen Inv-loop μ-loop
@@ -157,13 +188,13 @@ slice-aggregate-first-risen c = search needs
 first-risen-requires : tie.Need-first-risen-requires Inv-loop μ-loop
 first-risen-requires c κs = search needs
 
-returns : tie.Need-returns Inv-loop μ-loop
-returns c =
+returns-2 : tie.Need-returns-2 Inv-loop μ-loop
+returns-2 c =
     let asked = c .before in
     let at = asked .before .before in
-    let start = begin (made (at .before)) in
+    let start = begin (made (packed at)) in
     let none
-    = no-flag (at .loop .risen) (asked .first-risen .result) (asked .first-risen .ensures) (at .loop .inv .0 .flags) (c .if1 .taken) in (
+    = no-flag (at .loop .risen) (asked .first-risen .result) (asked .first-risen .ensures) (at .loop .inv .0 .flags) (c .if2 .taken) in (
       λ _. tracks-end (start .args .k) (tableIn (start .args .table)) (rowsIn (now (start .args .rows))) (at .loop .most) (at .loop .risen)
           (at .loop .inv .1) (start .pre .good) (start .pre .declared) (fitting (start .pre)) none,
       λ _. refl,
@@ -172,25 +203,25 @@ returns c =
 array-write-risen-2 : tie.Need-array-write-risen-2 Inv-loop μ-loop
 array-write-risen-2 c = search needs
 
-slice-aggregate-visit : tie.Need-slice-aggregate-visit Inv-loop μ-loop
-slice-aggregate-visit c = search needs
+slice-aggregate-by-round : tie.Need-slice-aggregate-by-round Inv-loop μ-loop
+slice-aggregate-by-round c = search needs
 
-slice-aggregate-visit-2 : tie.Need-slice-aggregate-visit-2 Inv-loop μ-loop
-slice-aggregate-visit-2 c = search needs
+slice-aggregate-by-round-2 : tie.Need-slice-aggregate-by-round-2 Inv-loop μ-loop
+slice-aggregate-by-round-2 c = search needs
 
-visit-requires : tie.Need-visit-requires Inv-loop μ-loop
-visit-requires c κs =
+by-round-requires : tie.Need-by-round-requires Inv-loop μ-loop
+by-round-requires c κs =
     let asked = c .before .before .before .before .before .before in
     let at = asked .before .before in
-    let start = begin (made (at .before)) in
+    let start = begin (made (packed at)) in
     let s = asked .first-risen .result in
-    let low = c .before .before .before .before .before .if1 .left in
+    let low = c .before .before .before .before .before .if2 .left in
     let flag = flag-up (at .loop .risen) s (asked .first-risen .ensures) (at .loop .inv .0 .flags) low in (
       (
         start .pre .bounded .patience,
         record {
           formed = start .pre .formed;
-          placed = row (made (at .before)) .before .places .ensures;
+          placed = row (made (packed at)) .before .places .ensures;
           has = at .loop .inv .1 .named s flag;
         },
         sym (start .pre .inputs ∙ inputs-read (start .args .table)),
@@ -201,30 +232,30 @@ visit-requires c κs =
       ),
     )
 
-returns-2 : tie.Need-returns-2 Inv-loop μ-loop
-returns-2 c =
+returns-3 : tie.Need-returns-3 Inv-loop μ-loop
+returns-3 c =
     let called = c .before .before .before in
     let begin = start called in (
       λ e. absurd (true≢false (sym e)),
       λ realizes. absurd (tracks-overrun (begin .args .k) (tableIn (begin .args .table)) (rowsIn (now (begin .args .rows)))
           (at called .loop .most) (at called .loop .risen) (at called .loop .inv .1) (state called)
-          (visited called .1 (not-true _ (c .if2 .taken))) realizes),
+          (led called .1 (not-true _ (c .if3 .taken))) realizes),
     )
 
 loop-less : tie.Need-loop-less Inv-loop μ-loop
 loop-less c =
     let called = c .before .before .before in
-    visit-less (start called .args .k) (at called .loop .most) _ (at called .loop .risen) _ (state called) (inside called) (flag called)
-    (arrays called .flags) (visited called .0 (not-false _ (c .if2 .left)) .rises)
+    led-less (start called .args .k) (at called .loop .most) _ (at called .loop .risen) _ (state called) (inside called) (flag called)
+    (arrays called .flags) (led called .0 (not-false _ (c .if3 .left)) .rises)
 
 loop-again : tie.Need-loop-again Inv-loop μ-loop
 loop-again c =
     let called = c .before .before .before in
     let begin = start called in (
       arrays called,
-      tracks-visit (begin .args .k) (tableIn (begin .args .table)) (rowsIn (now (begin .args .rows))) (at called .loop .most)
+      tracks-led (begin .args .k) (tableIn (begin .args .table)) (rowsIn (now (begin .args .rows))) (at called .loop .most)
           (at called .loop .risen) (at called .loop .inv .1) (fitting (begin .pre)) (state called) (inside called) (flag called) _ _
-          (visited called .0 (not-false _ (c .if2 .left))),
+          (led called .0 (not-false _ (c .if3 .left))),
     )
 
 pub keeps-spec : {M : Type 1} → statement M
@@ -242,17 +273,19 @@ keeps-spec =
     marks-requires-2
     start-requires
     pack-requires
+    safe-requires
+    returns
     mul-most
     array-write-most
     array-write-risen
     loop-holds
     slice-aggregate-first-risen
     first-risen-requires
-    returns
-    array-write-risen-2
-    slice-aggregate-visit
-    slice-aggregate-visit-2
-    visit-requires
     returns-2
+    array-write-risen-2
+    slice-aggregate-by-round
+    slice-aggregate-by-round-2
+    by-round-requires
+    returns-3
     loop-less
     loop-again)

@@ -1,10 +1,12 @@
--- `start`: the loop's invariant is that `out` holds the start position's counts at the states before q. A turn stores 0 plus no mark at a
--- start state of the side, and leaves -1 elsewhere. The measure is the number of states left. Assumes nothing.
+-- `start`: the loop's invariant is that `out` holds the start position's counts at the states before q. A turn stores 0 plus its
+-- mark at a start state of the side, and leaves -1 elsewhere. The measure is the number of states left. Assumes nothing.
 use mathlib.Core.Path.{_≡_, sym, ap, _∙_}
 use mathlib.Core.Bool.{cond}
 use mathlib.Core.Logic.{⊎-elim}
+use mathlib.Core.List.{List}
 use Prim.Native.Nat.{ℕ, _≤_, _<_, _-_}
 use borrow.Author.Needs.{needs}
+use lib.ListN.{getD}
 use lib.IntN.{pos}
 use Rattle.meaning.specs.Table.{bit}
 use Rattle.meaning.specs.Counting.{oneHigher, count, plus}
@@ -16,25 +18,29 @@ use Rattle.counts.proofs.Cells.{Filled, filled-none, filled-store, fill
 use Rattle.counts.proofs.position.start.Statement.{statement}
 use Rattle.counts.proofs.position.start.Tie as tie
 
-starts-at : (K n starts q : ℕ) → q < n → count (startCounts K n starts) q ≡ cond (bit starts q) (plus K 0 1) 0
+starts-at : (K n starts : ℕ) (marks : List ℕ) (q : ℕ) → q < n
+    → count (startCounts K n starts marks) q ≡ cond (bit starts q) (plus K (getD marks q 0) 1) 0
 unfolding startCounts
-starts-at K n starts q l = tab-at n _ q 0 l
+starts-at K n starts marks q l = tab-at n _ q 0 l
 
-starts-beyond : (K n starts q : ℕ) → n ≤ q → count (startCounts K n starts) q ≡ 0
+starts-beyond : (K n starts : ℕ) (marks : List ℕ) (q : ℕ) → n ≤ q → count (startCounts K n starts marks) q ≡ 0
 unfolding startCounts
-starts-beyond K n starts q l = tab-beyond n _ q 0 l
+starts-beyond K n starts marks q l = tab-beyond n _ q 0 l
 
 abbrev Inv-loop : tie.InvT-loop
-Inv-loop starts n k out₀ q₀ out q = Filled (count (startCounts k n starts)) q out
+Inv-loop starts n k marks out₀ q₀ out q = Filled (count (startCounts k n starts marks)) q out
 
 abbrev μ-loop : tie.MeasureT-loop
-μ-loop starts n k out₀ q₀ out q = 8 - q
+μ-loop starts n k marks out₀ q₀ out q = 8 - q
 
 loop-holds : tie.Need-loop-holds Inv-loop μ-loop
 loop-holds c = filled-none _
 
 has-requires : tie.Need-has-requires Inv-loop μ-loop
 has-requires c κs = search needs
+
+array-read-plus : tie.Need-array-read-plus Inv-loop μ-loop
+array-read-plus c = search needs
 
 plus-requires : tie.Need-plus-requires Inv-loop μ-loop
 plus-requires c κs = search needs
@@ -55,15 +61,16 @@ loop-again c =
     let n = at .before .args .n in
     let k = at .before .args .k in
     let starts = at .before .args .starts in
+    let marks = at .before .args .t2 in
     let store = filled-store _ q (at .loop .out) (at .loop .inv) (c .before .loop-test .taken) in
     let skip = filled-skip _ q (at .loop .out) (at .loop .inv) (c .before .loop-test .taken) in
-    let begun = starts-at k n starts q in
+    let begun = starts-at k n starts marks q in
     ⊎-elim
     (λ w. rw (w .4, from-bits (w .3 .result) (w .3 .ok))
     (store (w .3 .result)
-    (ap oneHigher (w .3 .ensures) ∙ plus-signed k 0 (pos 0) ∙ sym (rw (sym (w .1 .ensures) ∙ w .2 .taken) at (begun (w .0 .taken))))))
+    (ap oneHigher (w .3 .ensures) ∙ plus-signed k (getD marks q 0) (pos 0) ∙ sym (rw (sym (w .1 .ensures) ∙ w .2 .taken) at (begun (w .0 .taken))))))
     (⊎-elim (λ w. rw (w .3) (skip (rw (sym (w .1 .ensures) ∙ w .2 .left) at (begun (w .0 .taken)))))
-    (λ w. rw (w .1) (skip (starts-beyond k n starts q (w .0 .left)))))
+    (λ w. rw (w .1) (skip (starts-beyond k n starts marks q (w .0 .left)))))
     (c .if1 .came)
 
 returns : tie.Need-returns Inv-loop μ-loop
@@ -79,6 +86,7 @@ start-spec =
     μ-loop
     loop-holds
     has-requires
+    array-read-plus
     plus-requires
     array-set-from-out
     add-q

@@ -20,15 +20,21 @@ use Rattle.game.proofs.finish.finish.Tie as tie
 number : (c : tie.Start) → length (members (c .args .list .now) (c .args .n)) ≡ c .args .n
 number c = members-length (c .args .list .now) (c .args .n) (c .pre .0)
 
+-- the places on the way to the start position: the winners written, and the call
+abbrev after-winners : tie.After-start → tie.After-write-winners
+after-winners c = c .before .before .before .before
+
+abbrev call : tie.After-write-winners → tie.Start
+call c = c .before .before .before .before .before
+
 -- the place found is the start state
 begins : (c : tie.After-covering)
-    → (let begun = c .before .before in
-    let given = begun .before .before .before .before .before .before .before .before .args in
+    → (let given = call (after-winners (c .before .before)) .args in
     c .covering .result ≡ startState (given .k) (tableIn (given .table)) (members (given .list .now) (given .n)))
 unfolding tableIn startPosition startCounts
 begins c =
     let begun = c .before .before in
-    let start = begun .before .before .before .before .before .before .before .before in
+    let start = call (after-winners begun) in
     let given = start .args in
     c .covering .ensures
     ∙ start-stepped (given .k) (tableIn (given .table)) (start .pre .1 .bounded) (members (given .list .now) (given .n))
@@ -62,8 +68,8 @@ same-length c = search needs
 
 returns-2 : tie.Need-returns-2
 returns-2 c =
-    let wrote = c .before .before .before .before .before .before in
-    let start = wrote .before .before .before .before .before in
+    let wrote = after-winners (c .before .before .before) in
+    let start = call wrote in
     let given = start .args in
     finished-without (given .k) (tableIn (given .table)) (members (given .list .now) (given .n)) (given .rounds) (given .winners .now)
     (given .controller .now)
@@ -73,8 +79,7 @@ returns-2 c =
 
 write-rows-requires : tie.Need-write-rows-requires
 write-rows-requires c κs =
-    let begun = c .before .before .before .before in
-    let start = begun .before .before .before .before .before .before .before .before in
+    let start = call (after-winners (c .before .before .before .before)) in
     (start .pre .0, c .before .if2 .left, start .pre .1, omega (arith, start .pre .2 .controller, number start))
 
 same-length-2 : tie.Need-same-length-2
@@ -87,8 +92,8 @@ returns-3 : tie.Need-returns-3
 returns-3 c =
     let rows = c .before .before in
     let found = rows .before .before in
-    let wrote = found .before .before .before .before .before .before in
-    let start = wrote .before .before .before .before .before in
+    let wrote = after-winners (found .before .before .before) in
+    let start = call wrote in
     let given = start .args in
     finished-with (given .k) (tableIn (given .table)) (members (given .list .now) (given .n)) (given .rounds) (given .winners .now)
     (given .controller .now)

@@ -1,4 +1,4 @@
--- One controller state visited: its counts led a round on by its output and each input.
+-- A controller state led on: its counts a round further, by its output and each input.
 use mathlib.Core.Path.{_≡_}
 use mathlib.Core.Bool.{Bool, true, false}
 use mathlib.Core.List.{List}
@@ -21,8 +21,8 @@ pub record ForAll (most : List ℕ) (risen : List Bool) : Type 0 where
 abbrev pub ledTo : ℕ → Table → List Row → ℕ → Position → ℕ → Position
 ledTo K t rows s F i = afterRound K t (rowOutput rows s) i F
 
-abbrev pub Visited : ℕ → Table → List Row → ℕ → List ℕ → List Bool → List ℕ → List Bool → Type 0
-Visited K t rows s most risen = Led K (t .inputs) (rowNext rows s) (ledTo K t rows s (countsAt most s)) most risen
+abbrev pub AllLed : ℕ → Table → List Row → ℕ → List ℕ → List Bool → List ℕ → List Bool → Type 0
+AllLed K t rows s most risen = Led K (t .inputs) (rowNext rows s) (ledTo K t rows s (countsAt most s)) most risen
 
 -- with some input a run overruns K
 abbrev pub Overruns : ℕ → Table → List Row → ℕ → Position → Type 0
@@ -34,15 +34,15 @@ pub record Steps (t : Table) (outSpreads : List ℕ) (outMarks : ℕ) (inSpreads
   pub inputs : (i : ℕ) → StatedIn inSpreads i inMarks (onInput t i)
 
 -- a middle position led on by an input, for whatever half of a round the words state; true exactly if that is safe
-abbrev pub LedOn : ℕ → List ℕ → ℕ → ℕ → ℕ → ℕ → List ℕ → List Bool → List ℕ → List Bool → Bool → Type 0
-LedOn K spreads marks middle input next most risen most′ risen′ r =
+abbrev pub LedByInput : ℕ → List ℕ → ℕ → ℕ → ℕ → ℕ → List ℕ → List Bool → List ℕ → List Bool → Bool → Type 0
+LedByInput K spreads marks middle input next most risen most′ risen′ r =
     (h : Half) → StatedIn spreads input marks h → h .targets ≤ 8
     → (r ≡ safe K (forward K h (countsIn middle)))
     × (r ≡ true → Raised K next (forward K h (countsIn middle)) most risen most′ risen′)
 
--- a state visited, for whatever table the words state; false exactly if a run overruns K
-abbrev pub VisitedOn : ℕ → List ℕ → List ℕ → ℕ → List ℕ → ℕ → ℕ → List ℕ → List Bool → List ℕ → List Bool → Bool → Type 0
-VisitedOn K rows outSpreads outMarks inSpreads inMarks s most risen most′ risen′ r =
+-- a state led on, for whatever table the words state; false exactly if a run overruns K
+abbrev pub LedByRound : ℕ → List ℕ → List ℕ → ℕ → List ℕ → ℕ → ℕ → List ℕ → List Bool → List ℕ → List Bool → Bool → Type 0
+LedByRound K rows outSpreads outMarks inSpreads inMarks s most risen most′ risen′ r =
     (t : Table) → Followable K t rows → Steps t outSpreads outMarks inSpreads inMarks
-    → (r ≡ true → Visited K t (rowsIn rows) s most risen most′ risen′)
+    → (r ≡ true → AllLed K t (rowsIn rows) s most risen most′ risen′)
     × (r ≡ false → Overruns K t (rowsIn rows) s (countsAt most s))

@@ -1,4 +1,4 @@
--- `lead`: the step in words stands for that of the half of a round they state, so it is safe if that is, and raises the next state's counts
+-- `by_input`: the step in words stands for that of the half of a round they state, so it is safe if that is, and raises the next state's counts
 -- to it. Assumes nothing.
 use borrow.Author.Needs.{needs}
 use mathlib.Core.Path.{_≡_, sym, ap, _∙_}
@@ -13,8 +13,8 @@ use Rattle.meaning.proofs.Steps.{forward-length}
 use Rattle.counts.specs.Words.{countsIn, StatedIn}
 use Rattle.checker.proofs.Counts.{safe-wide}
 use Rattle.checker.proofs.Raising.{raised-wide}
-use Rattle.checker.proofs.visit.lead.Statement.{statement}
-use Rattle.checker.proofs.visit.lead.Tie as tie
+use Rattle.checker.proofs.lead.by_input.Statement.{statement}
+use Rattle.checker.proofs.lead.by_input.Tie as tie
 
 abbrev start : tie.After-forward → tie.Start
 start c = c .before .before .before
@@ -68,8 +68,8 @@ returns-2 c h stated small =
       λ _. raised-wide F (few step h stated small) (rw e at raised),
     )
 
-pub lead-spec : {M : Type 1} → statement M
-lead-spec =
+pub by-input-spec : {M : Type 1} → statement M
+by-input-spec =
     tie.close
     (tie.spec
     forward-requires

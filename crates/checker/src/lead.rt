@@ -7,10 +7,10 @@ ghost use lib.ListN.{length};
 ghost use Rattle.meaning.specs.Play.{rowsIn};
 ghost use Rattle.meaning.specs.Controller.{inputsIn};
 ghost use Rattle.rows.specs.Placed.{Ready};
-ghost use Rattle.checker.specs.Visited.{ForAll, LedOn, VisitedOn};
+ghost use Rattle.checker.specs.LedByRound.{ForAll, LedByInput, LedByRound};
 
 // Leads a middle position on by one input, to the counts of the next state; false if that is not safe.
-fn lead(
+fn by_input(
     spreads: &[u64; 64],
     marks: u64,
     k: usize,
@@ -21,7 +21,7 @@ fn lead(
     risen: &mut [bool],
 ) -> bool
     requires { ⌜ (k ≤ 7) × (next < length (now most)) × (next < length (now risen)) ⌝ }
-    ensures { λ r. ⌜ LedOn k (now (spreads .entry)) marks middle input next
+    ensures { λ r. ⌜ LedByInput k (now (spreads .entry)) marks middle input next
         (now (most .entry)) (now (risen .entry)) (now (most .exit)) (now (risen .exit)) r ⌝ }
 {
     let after = word::forward(middle, spreads, input, marks, k);
@@ -32,9 +32,9 @@ fn lead(
     true
 }
 
-// Visits state s: leads its counts a round on, to those of each next state; false if a run overruns k.
+// Leads the counts of state s a round on, to those of each next state; false if a run overruns k.
 // The spreads and marks are those of the outputs, and those of so many inputs.
-pub fn visit(
+pub fn by_round(
     k: usize,
     rows: &[u8],
     places: &[u16; 256],
@@ -49,7 +49,7 @@ pub fn visit(
 ) -> bool
     requires { ⌜ (k ≤ 7) × Ready (now rows) (now places) s × (inputs ≡ inputsIn (rowsIn (now rows))) ⌝ }
     requires arrays { ⌜ ForAll (now most) (now risen) × (s < 256) ⌝ }
-    ensures { λ r. ⌜ VisitedOn k (now (rows .entry)) (now («out_spreads» .entry)) «out_marks» (now («in_spreads» .entry)) «in_marks» s
+    ensures { λ r. ⌜ LedByRound k (now (rows .entry)) (now («out_spreads» .entry)) «out_marks» (now («in_spreads» .entry)) «in_marks» s
         (now (most .entry)) (now (risen .entry)) (now (most .exit)) (now (risen .exit)) r ⌝ }
 {
     let state = s as u8;
@@ -58,7 +58,7 @@ pub fn visit(
     let mut i = 0;
     while i < inputs {
         let next = rows::next(rows, places, state, i) as usize;
-        if !lead(in_spreads, in_marks, k, middle, i, next, most, risen) {
+        if !by_input(in_spreads, in_marks, k, middle, i, next, most, risen) {
             return false;
         }
         i += 1;

@@ -1,4 +1,4 @@
--- `visit` leads the state's counts on by one input after the other. The loop's invariant: for whatever table the words state, they are led
+-- `by_round` leads the state's counts on by one input after the other. The loop's invariant: for whatever table the words state, they are led
 -- on for the first i inputs, from the counts as they were. The measure is the number of inputs left. Assumes nothing.
 use mathlib.Core.Path.{_≡_, sym, ap, _∙_}
 use mathlib.Core.Bool.{Bool, true, true≢false}
@@ -16,13 +16,13 @@ use Rattle.meaning.specs.Play.{rowsIn, rowOutput, rowNext}
 use Rattle.counts.specs.Words.{countsIn}
 use Rattle.checker.specs.Followable.{Followable}
 use Rattle.checker.specs.Raised.{countsAt, Led}
-use Rattle.checker.specs.Visited.{ForAll, ledTo, Steps}
+use Rattle.checker.specs.LedByRound.{ForAll, ledTo, Steps}
 use Rattle.checker.proofs.Counts.{counts-read}
 use Rattle.checker.proofs.Raising.{raised-as}
 use Rattle.checker.proofs.Leading.{led-none, led-more}
-use Rattle.checker.proofs.Visiting.{led-to}
-use Rattle.checker.proofs.visit.visit.Statement.{statement}
-use Rattle.checker.proofs.visit.visit.Tie as tie
+use Rattle.checker.proofs.Stepping.{led-to}
+use Rattle.checker.proofs.lead.by_round.Statement.{statement}
+use Rattle.checker.proofs.lead.by_round.Tie as tie
 
 -- led on for the first i inputs, on each table that the words state
 abbrev LedFor : ℕ → List ℕ → List ℕ → ℕ → List ℕ → ℕ → ℕ → ℕ → List ℕ → List Bool → List ℕ → List Bool → Type 0
@@ -38,14 +38,14 @@ abbrev μ-loop : tie.MeasureT-loop
 μ-loop k rows places outSpreads outMarks inSpreads inMarks inputs s most₀ risen₀ state output middle i₀ most risen i = inputs - i
 
 -- where a turn has led on by one input
-abbrev at : tie.After-lead Inv-loop μ-loop → tie.At-loop Inv-loop μ-loop
+abbrev at : tie.After-by-input Inv-loop μ-loop → tie.At-loop Inv-loop μ-loop
 at c = c .before .before .before .before .before
 
 abbrev start : tie.At-loop Inv-loop μ-loop → tie.Start Inv-loop μ-loop
 start head = head .before .before .before .before .before .before .before
 
 -- for a table that the words state
-module _ (c : tie.After-lead Inv-loop μ-loop) (t : Table) (f : Followable (start (at c) .args .k) t (now (start (at c) .args .rows)))
+module _ (c : tie.After-by-input Inv-loop μ-loop) (t : Table) (f : Followable (start (at c) .args .k) t (now (start (at c) .args .rows)))
     (steps : Steps t (now (start (at c) .args .out-spreads)) (start (at c) .args .out-marks) (now (start (at c) .args .in-spreads))
     (start (at c) .args .in-marks)) where
   abbrev begin : tie.Start Inv-loop μ-loop
@@ -76,9 +76,9 @@ module _ (c : tie.After-lead Inv-loop μ-loop) (t : Table) (f : Followable (star
       led-to (begin .args .k) t (f .bounded) (rowsIn (now (begin .args .rows))) (begin .args .s) from (at c .before .forward .result) begun
       (at c .loop .i)
 
-  safely : c .lead .result ≡ safe (begin .args .k) (led (at c .loop .i))
+  safely : c .by-input .result ≡ safe (begin .args .k) (led (at c .loop .i))
   safely =
-      c .lead .ensures (onInput t (at c .loop .i)) (steps .inputs (at c .loop .i)) (f .bounded .small .controllers) .0
+      c .by-input .ensures (onInput t (at c .loop .i)) (steps .inputs (at c .loop .i)) (f .bounded .small .controllers) .0
       ∙ ap (safe (begin .args .k)) same
 
 cast-state : tie.Need-cast-state Inv-loop μ-loop
@@ -112,15 +112,15 @@ next-requires c κs =
 cast-next : tie.Need-cast-next Inv-loop μ-loop
 cast-next c = search needs
 
-lead-requires : tie.Need-lead-requires Inv-loop μ-loop
-lead-requires c κs = search needs
+by-input-requires : tie.Need-by-input-requires Inv-loop μ-loop
+by-input-requires c κs = search needs
 
 -- the arrays stay as long as they were
-arrays : (c : tie.After-lead Inv-loop μ-loop) → ForAll (c .lead .last .1 .1 .1 .1 .1 .1 .0) (c .lead .last .1 .1 .1 .1 .1 .1 .1 .0)
+arrays : (c : tie.After-by-input Inv-loop μ-loop) → ForAll (c .by-input .last .1 .1 .1 .1 .1 .1 .0) (c .by-input .last .1 .1 .1 .1 .1 .1 .1 .0)
 arrays c =
     record {
-      counts = c .lead .kept .1 .1 .1 .1 .1 .1 .0 ∙ at c .loop .inv .1 .counts;
-      flags = c .lead .kept .1 .1 .1 .1 .1 .1 .1 .0 ∙ at c .loop .inv .1 .flags;
+      counts = c .by-input .kept .1 .1 .1 .1 .1 .1 .0 ∙ at c .loop .inv .1 .counts;
+      flags = c .by-input .kept .1 .1 .1 .1 .1 .1 .1 .0 ∙ at c .loop .inv .1 .flags;
     }
 
 same-length : tie.Need-same-length Inv-loop μ-loop
@@ -148,11 +148,11 @@ loop-again : tie.Need-loop-again Inv-loop μ-loop
 loop-again c =
     let called = c .before .before .before .before .before in
     let i = at called .loop .i in
-    let went : called .lead .result ≡ true = not-false _ (c .if1 .left) in (
+    let went : called .by-input .result ≡ true = not-false _ (c .if1 .left) in (
       omega arith,
       arrays called,
       λ t f steps.
-          let told = called .lead .ensures (onInput t i) (steps .inputs i) (f .bounded .small .controllers) in
+          let told = called .by-input .ensures (onInput t i) (steps .inputs i) (f .bounded .small .controllers) in
           led-more _ _ _ _ _ i (at called .loop .inv .2 t f steps) (sym (safely called t f steps) ∙ went)
           (raised-as (called .before .before .before .next .ensures) (same called t f steps) (told .1 went)),
     )
@@ -169,8 +169,8 @@ returns-2 c t f steps =
     let all : head .loop .i ≡ t .inputs = omega (arith, head .loop .inv .0, c .loop-test .left, start head .pre .0 .2, f .inputs) in
     (λ _. rw all at (head .loop .inv .2 t f steps), λ e. absurd (true≢false e))
 
-pub visit-spec : {M : Type 1} → statement M
-visit-spec =
+pub by-round-spec : {M : Type 1} → statement M
+by-round-spec =
     tie.close
     (tie.spec
     Inv-loop
@@ -184,7 +184,7 @@ visit-spec =
     loop-holds
     next-requires
     cast-next
-    lead-requires
+    by-input-requires
     same-length
     same-length-2
     returns

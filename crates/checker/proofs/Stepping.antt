@@ -1,4 +1,4 @@
--- The positions that a visit leads on to, as the code steps them: half a round in eight counts, then by an input. A step reads counts alone.
+-- The positions that a round leads on to, as the code steps them: half a round in eight counts, then by an input. A step reads counts alone.
 -- Assumes nothing.
 use mathlib.Core.Path.{_≡_, refl, ap, _∙_}
 use mathlib.Core.List.{List}
@@ -13,7 +13,7 @@ use Rattle.counts.proofs.Wide.{forward-wide}
 use Rattle.table.specs.declared.Table as D
 use Rattle.table.specs.Packed.{tableIn}
 use Rattle.steps.specs.Bounded.{Bounded}
-use Rattle.checker.specs.Visited.{ledTo}
+use Rattle.checker.specs.LedByRound.{ledTo}
 
 pub led-to : (K : ℕ) (t : Table) → Bounded K t → (rows : List Row) (s : ℕ) (F : Position) (middle : ℕ)
     → countsIn middle ≡ positionBytes (forward K (onOutput t (rowOutput rows s)) F)
