@@ -68,7 +68,7 @@ loop-again c =
     ⊎-elim
     (λ w. rw (w .4, from-bits (w .3 .result) (w .3 .ok))
     (store (w .3 .result)
-    (ap oneHigher (w .3 .ensures) ∙ plus-signed k (getD marks q 0) (pos 0) ∙ sym (rw (sym (w .1 .ensures) ∙ w .2 .taken) at (begun (w .0 .taken))))))
+    (ap oneHigher (w .3 .ensures) ∙ plus-signed _ _ (pos 0) ∙ sym (rw (sym (w .1 .ensures) ∙ w .2 .taken) at (begun (w .0 .taken))))))
     (⊎-elim (λ w. rw (w .3) (skip (rw (sym (w .1 .ensures) ∙ w .2 .left) at (begun (w .0 .taken)))))
     (λ w. rw (w .1) (skip (starts-beyond k n starts marks q (w .0 .left)))))
     (c .if1 .came)
