@@ -338,6 +338,9 @@ test_bad_text() {
 
 owed=$scratch/owed
 
+# What is said where patience 0 was not enough since a start state is marked.
+marked_start='With less patience none can be made: a start state is marked, and to begin there is a visit.'
+
 # What the card says of a code: its name and what it means.
 meaning_of() { awk -F ' [|] ' -v code="| $1" '$1 == code { print $2 ": " $3 }' "$root/docs/CARD.md"; } # CODE
 
@@ -349,6 +352,13 @@ test_words() {
     program_prints "$(none_up_to 0)" 'k 1 code 0 place 0 rounds 0 winners 2 start 1' '1 1 0 0' '1 1 1 0' '0 1 0 0' '0 1 1 1'
     stand_in --plain "$owed"
     says "two states, patience 1" 0 "with patience 1 it has 2 states of its own. With less patience none can be made."
+    holds "no mark of a start is spoken of" test "$(grep -c 'is marked' "$scratch/out")" -eq 0
+    owed_records | sed 's/^1020/1030/' >"$scratch/marked"
+    stand_in --plain "$scratch/marked"
+    says "a marked start state, patience 1" 0 "$marked_start"
+    program_prints "$(none_up_to 1)" 'k 2 code 0 place 0 rounds 0 winners 1 start 0' '0 1 0 0' '0 1 1 0'
+    stand_in --plain "$scratch/marked"
+    says "a marked start state, patience 2" 0 "it has 1 state of its own. With less patience none can be made."
     program_prints "$(none_up_to 7)"
     stand_in --plain "$owed"
     says "no controller" 1 "Tried with patience 0 to 7: no controller." "The rule writer should look at which rule can't be kept."
@@ -425,6 +435,9 @@ test_two() {
     program_prints "$(none_up_to 7 ' which 0')"
     stand_in --parts "$scratch/one" "$scratch/two"
     says "no controller by parts" 1 "k 7 code 1 place 0 which 0 " "Tried with patience 0 to 7: no controller."
+    program_prints "$(none_up_to 0 ' which 0')" 'k 1 code 0 place 0 which 0 rounds 0 winners 1 start 0' '0 1 0 0' '0 1 1 0'
+    stand_in --parts "$scratch/one" "$scratch/marked"
+    says "a marked start state of the second table" 0 "$marked_start"
     program_prints 'code 13 place 0 which 0 rounds 0 winners 0 start 0'
     stand_in --join "$scratch/one" "$scratch/two"
     says "a join that is refused" 3 "Refused with code 13, LETTERS:" "$scratch/two has the outputs 0 and the inputs 0 to 2."
@@ -509,6 +522,15 @@ test_rows_words() {
     checked_with 1 '0 0 0 0' '0 0 1 0'
     says "rows that are wrong" 1 'k 2 code 1 place 0' "No: for some inputs, following these rows breaks the rules of $owed" \
         "more often than patience 2 allows." "Send them back to their maker"
+    program_prints 'k 0 code 1 place 0'
+    echo '1 0 3 0' >"$asked_rows"
+    stand_in --check "$owed" "$asked_rows" 0
+    says "rows that are wrong with patience 0" 1 "Send them back to their maker"
+    stand_in --check "$scratch/marked" "$asked_rows" 0
+    says "rows for a table with a marked start state, patience 0" 1 "more often than patience 0 allows." \
+        "No rows can do with patience 0: a start state of the table is marked, and to begin there is a visit." \
+        "Ask for a patience from 1 to 7, or ask the rule writer whether that mark is meant."
+    holds "they are not sent back then" test "$(grep -c 'Send them back' "$scratch/out")" -eq 0
     program_prints 'k 8 code 2 place 0'
     stand_in --check "$scratch/owed.bytes" "$asked_rows" 8
     says "a patience over 7" 3 "Refused with code 2, BOUND: The patience asked for is over 7." "Ask for a patience from 0 to 7."
@@ -953,6 +975,9 @@ test_checks() {
     done
     "$root/desk" "$root/tables/loud.table" >"$asked_rows"
     checks "loud: with less patience it is not" 1 "$root/tables/loud.table" 0 'k 0 code 1 place 0' "No: "
+    "$root/desk" "$root/tables/first.table" >"$asked_rows"
+    checks "first: with patience 0 no rows can do" 1 "$root/tables/first.table" 0 'k 0 code 1 place 0' "No: " \
+        "No rows can do with patience 0: a start state of the table is marked"
     "$root/desk" --parts "$lamp" "$root/tables/calm.table" >"$asked_rows"
     checks "what ./desk --parts prints is right for the first table" 0 "$lamp" 1 "Yes: "
     checks "and for the second" 0 "$root/tables/calm.table" 1 "Yes: "

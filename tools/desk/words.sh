@@ -35,6 +35,7 @@ say() {
 say_made() {
     less=
     [ "$k" -eq 0 ] || less=' With less patience none can be made.'
+    if [ "$k" -eq 1 ] && starts_marked; then less="${less%.}: a start state is marked, and to begin there is a visit."; fi
     tell "A controller was made: with patience $k it has $(number_of "$winners" state) of its own.$less"
 }
 
@@ -44,9 +45,16 @@ say_none() {
     further
 }
 
+# Whether a start state of a table is marked. Then one visit is counted before the cradle has done anything, and patience 0 is never enough.
+starts_marked() {
+    set -- "$scratch/1.records"
+    [ "$tables" -eq 1 ] || set -- "$@" "$scratch/2.records"
+    awk '$2 == 1 && $4 == 3 { found = 1 } END { exit !found }' "$@"
+}
+
 # What the rule writer can ask when no controller can be made. The command for the question of document 02, R-14, how long a position
 # holds out, is named here when it comes.
-further() { tell "./desk --picture-table draws a table, to see where its marked states are entered."; }
+further() { tell "./desk --picture-table draws a table, to see how a run comes to its marked states."; }
 
 # $at is the file at fault, 0 for both together or for none.
 say_refused() {
