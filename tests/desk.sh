@@ -528,8 +528,8 @@ test_rows_words() {
     says "rows that are wrong with patience 0" 1 "Send them back to their maker"
     stand_in --check "$scratch/marked" "$asked_rows" 0
     says "rows for a table with a marked start state, patience 0" 1 "more often than patience 0 allows." \
-        "No rows can do with patience 0: a start state of the table is marked, and to begin there is a visit." \
-        "Ask for a patience from 1 to 7, or ask the rule writer whether that mark is meant."
+        "Don't put these rows into a cradle. No rows can do with patience 0: a start state of the table is marked." \
+        "To begin there is a visit. Ask for a patience from 1 to 7, or ask the rule writer whether that mark is meant."
     holds "they are not sent back then" test "$(grep -c 'Send them back' "$scratch/out")" -eq 0
     program_prints 'k 8 code 2 place 0'
     stand_in --check "$scratch/owed.bytes" "$asked_rows" 8

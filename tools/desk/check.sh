@@ -19,8 +19,8 @@ say_checked() {
     1)
         tell "No: for some inputs, following these rows breaks the rules of $first more often than patience $k allows."
         if [ "$k" -eq 0 ] && starts_marked; then
-            tell "No rows can do with patience 0: a start state of the table is marked, and to begin there is a visit."
-            tell "Ask for a patience from 1 to 7, or ask the rule writer whether that mark is meant."
+            tell "Don't put these rows into a cradle. No rows can do with patience 0: a start state of the table is marked."
+            tell "To begin there is a visit. Ask for a patience from 1 to 7, or ask the rule writer whether that mark is meant."
         else
             tell "Don't put these rows into a cradle. Send them back to their maker, with the table and the patience."
         fi
