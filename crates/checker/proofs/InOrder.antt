@@ -33,7 +33,8 @@ module _ (bytes : List ℕ) (K : ℕ) (rows : List ℕ) where
         right = false;
         exactly = λ p.
             absurd (cond-granted false 0 (c .refusal)
-            (ap (λ (a : Answer). a .verdict) (sym (judge-passes (checkChecks bytes K rows) refused (verdictOn false) p) ∙ same (verdictOn false))));
+            (ap (λ (a : Answer). a .verdict)
+            (sym (judge-passes (checkChecks bytes K rows) refused (verdictOn false) p) ∙ same (verdictOn false))));
         answers = e ∙ sym (same (verdictOn false));
       }
 
@@ -60,7 +61,8 @@ module _ (bytes : List ℕ) (K : ℕ) (rows : List ℕ) where
       found-rows w e = refusing (check Rows 0 0 true) (λ grant. read grant ∙ (rw w)) e
 
       module _ (formed : wellFormed rows ≡ true) where
-        foreign-refused : foreign (stated bytes) (rowsIn rows) .failed ≡ true → {answer : Answer} → answer ≡ refused (check Letters 0 0 true)
+        foreign-refused : foreign (stated bytes) (rowsIn rows) .failed ≡ true
+            → {answer : Answer} → answer ≡ refused (check Letters 0 0 true)
             → Found bytes K rows answer
         unfolding misshapen foreign refused
         foreign-refused f e = refusing (check Letters 0 0 true) (λ grant. read grant ∙ (rw (formed, f))) e
@@ -77,7 +79,8 @@ module _ (bytes : List ℕ) (K : ℕ) (rows : List ℕ) where
             let strange = not (ofLetters (stated bytes .outputs) (rowsIn rows)) in
             foreign-refused (rw (ne-eqb _ _ d) (or-true strange)) e
 
-        pub found-verdict : ofLetters (stated bytes .outputs) (rowsIn rows) ≡ true → inputsIn (rowsIn rows) ≡ stated bytes .inputs → (right : Bool)
+        pub found-verdict : ofLetters (stated bytes .outputs) (rowsIn rows) ≡ true → inputsIn (rowsIn rows) ≡ stated bytes .inputs
+            → (right : Bool)
             → (right ≡ true) ↔ Realizes K (stated bytes) (followed rows) → {answer : Answer} → answer ≡ verdictOn right
             → Found bytes K rows answer
         unfolding misshapen foreign

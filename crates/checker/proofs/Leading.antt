@@ -1,5 +1,5 @@
--- A state's counts led on input by input: each input raises the counts of one state, and what held of the inputs before it still does, since
--- counts only rise and a state that is not flagged is as it was. Assumes nothing.
+-- A state's counts led on input by input: each input raises the counts of one state, and what held of the inputs before it still does,
+-- since counts only rise and a state that is not flagged is as it was. Assumes nothing.
 use mathlib.Core.Path.{_≡_, refl, sym, ap, _∙_, subst}
 use mathlib.Core.Logic.{_⊎_, inl, inr, ⊎-elim}
 use mathlib.Core.Bool.{Bool, true}
@@ -55,7 +55,8 @@ module _ (K : ℕ) (next : ℕ → ℕ) (after : ℕ → Position) (most : List 
     told =
         at-each
         (λ s. (flagAt risen₂ s ≡ true) ⊎ ((countsAt most₂ s ≡ countsAt most₁ s) × (flagAt risen₂ s ≡ flagAt risen₁ s))) (next n)
-        (⊎-elim (λ f. inl f) (λ same. inr (ap (λ m. countsAt m (next n)) (same .0), ap (λ f. flagAt f (next n)) (same .1))) (raised .flagged))
+        (⊎-elim (λ f. inl f) (λ same. inr (ap (λ m. countsAt m (next n)) (same .0), ap (λ f. flagAt f (next n)) (same .1)))
+        (raised .flagged))
         (λ s d. inr (raised .others s d))
 
     marked : (s : ℕ) → flagAt risen₂ s ≡ true → (flagAt risen₁ s ≡ true) ⊎ (next n ≡ s)

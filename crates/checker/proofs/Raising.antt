@@ -29,7 +29,8 @@ module _ (K s : ℕ) (F : Position) (most : List ℕ) (risen : List Bool) where
       }
 
   pub raised-over : (m : ℕ) → s < length most → s < length risen → length F ≡ 8 → safe K F ≡ true
-      → below F (countsAt most s) ≡ false → GreaterOf (countsAt most s) F (countsIn m) → Raised K s F most risen (set most s m) (set risen s true)
+      → below F (countsAt most s) ≡ false → GreaterOf (countsAt most s) F (countsIn m)
+      → Raised K s F most risen (set most s m) (set risen s true)
   unfolding countsAt
   raised-over m inside flags long safely over greater =
       let held = countsAt most s in
@@ -41,7 +42,8 @@ module _ (K s : ℕ) (F : Position) (most : List ℕ) (risen : List Bool) where
         flagged = inl (getD-set-same risen s true false flags);
         others = λ r d. (counts-elsewhere most s m r d, getD-set-other risen s r true false d);
         rises = inl (room-set K most s m inside
-            (room-less K held (countsIn m) (counts-length most s ∙ sym (countsIn-length m)) (λ q. omega (arith, greater q)) (q .0) less top));
+            (room-less K held (countsIn m) (counts-length most s ∙ sym (countsIn-length m)) (λ q. omega (arith, greater q))
+            (q .0) less top));
       }
 
 -- for a position in eight counts is for the position

@@ -1,5 +1,6 @@
 -- How far counts may still rise. Where each of a list's counts is at most the other's, and one is less and not over K + 2 there, the other
--- has less room; and so have all states together if one of them has. A flag taken down leaves fewer flags. By induction on the lists. Assumes nothing.
+-- has less room; and so have all states together if one of them has. A flag taken down leaves fewer flags. By induction on the lists.
+-- Assumes nothing.
 use mathlib.Core.Path.{_≡_, refl, sym, ap, _∙_}
 use mathlib.Core.Logic.{⊎-elim}
 use mathlib.Core.Bool.{Bool, true, false, _&&_, and-true, true≢false}

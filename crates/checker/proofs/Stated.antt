@@ -42,9 +42,11 @@ unfolding tableIn
 steps-stated K table rows f outSpreads inSpreads outMarks inMarks out-spreads out-marks in-spreads in-marks =
     record {
       outputs = λ o.
-          stated (table .«output_targets») (table .«world_marks») outSpreads outMarks o (table .controllers) (table .worlds) out-spreads out-marks
+          stated (table .«output_targets») (table .«world_marks») outSpreads outMarks o (table .controllers) (table .worlds)
+          out-spreads out-marks
           (f .bounded .small .controllers) (λ p q e. let w = f .good .output-ends o p q e in (w .1, w .2));
       inputs = λ i.
-          stated (table .«input_targets») (table .«controller_marks») inSpreads inMarks i (table .worlds) (table .controllers) in-spreads in-marks
+          stated (table .«input_targets») (table .«controller_marks») inSpreads inMarks i (table .worlds) (table .controllers)
+          in-spreads in-marks
           (f .bounded .small .worlds) (λ p q e. let w = f .good .input-ends i p q e in (w .1, w .2));
     }

@@ -1,5 +1,5 @@
--- The positions that a round leads on to, as the code steps them: half a round in eight counts, then by an input. A step reads counts alone.
--- Assumes nothing.
+-- The positions that a round leads on to, as the code steps them: half a round in eight counts, then by an input. A step reads counts
+-- alone. Assumes nothing.
 use mathlib.Core.Path.{_≡_, refl, ap, _∙_}
 use mathlib.Core.List.{List}
 use Prim.Native.Nat.{ℕ}

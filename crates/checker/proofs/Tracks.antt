@@ -1,7 +1,7 @@
--- The invariant of the whole check (`Tracks`): the counts of each controller state are attained by runs, safe, and over the start; and a state
--- that is not flagged leads, with each input, to counts that are not above the next state's. It holds at the start, leading a state on keeps it, and
--- where no state is flagged the counts are closed, so that the rows keep every run to K. An overrun from attained counts shows that they
--- don't. Assumes nothing.
+-- The invariant of the whole check (`Tracks`): the counts of each controller state are attained by runs, safe, and over the start; and a
+-- state that is not flagged leads, with each input, to counts that are not above the next state's. It holds at the start, leading a state
+-- on keeps it, and where no state is flagged the counts are closed, so that the rows keep every run to K. An overrun from attained counts
+-- shows that they don't. Assumes nothing.
 use mathlib.Core.Path.{_≡_, refl, sym, ap, _∙_}
 use mathlib.Core.Logic.{_⊎_, inl, inr, ⊎-elim}
 use mathlib.Core.Bool.{Bool, true, false}
@@ -22,7 +22,7 @@ use Rattle.meaning.specs.Play.{Realizes, rowsIn, rowOutput, rowNext}
 use Rattle.meaning.specs.Controller.{firstState, hasRows}
 use Rattle.meaning.proofs.Tests.{clash}
 use Rattle.meaning.proofs.Lists.{place-holds, place-before, getD-alike}
-use Rattle.meaning.proofs.Steps.{below-of, safe-at, safe-of, safe-where}
+use Rattle.meaning.proofs.Steps.{below-of, safe-at, safe-of}
 use Rattle.meaning.proofs.Winning.{round-from}
 use Rattle.meaning.proofs.Realizes.{count-start, start-length}
 use Rattle.meaning.proofs.Formed.{formed, next-has}
@@ -129,7 +129,8 @@ module _ (K : ℕ) (t : Table) (rows : List Row) where
 
         go-named : (s : ℕ) → flagAt risen₀ s ≡ true → Dec (s ≡ first) → hasRows rows s ≡ true
         go-named s f (yes g) = rw (g, is-first) has
-        go-named s f (no d) = absurd (clash (flagAt risen₀ s) f (getD-set-other (replicate 256 false) first s true false d ∙ getD-alike 256 s false))
+        go-named s f (no d) =
+            absurd (clash (flagAt risen₀ s) f (getD-set-other (replicate 256 false) first s true false d ∙ getD-alike 256 s false))
 
         go-closed : (s i : ℕ) → Dec (s ≡ first) → (flagAt risen₀ s ≡ true)
             ⊎ ((q : ℕ) → count (ledTo K t rows s (countsAt most₀ s) i) q ≤ count (countsAt most₀ (rowNext rows s i)) q)
@@ -155,12 +156,14 @@ module _ (K : ℕ) (t : Table) (rows : List Row) where
             begins = λ q. le-trans (tracks .begins q) (led .over (firstState rows) q);
             safely = λ r.
                 safe-of K (countsAt most′ r)
-                (λ q _. ⊎-elim (λ (same : count (countsAt most′ r) q ≡ count (countsAt most r) q). omega (arith, safe-at K _ (tracks .safely r) q))
+                (λ q _. ⊎-elim (λ (same : count (countsAt most′ r) q ≡ count (countsAt most r) q).
+                omega (arith, safe-at K _ (tracks .safely r) q))
                 (λ w. omega (arith, w .3, safe-at K _ (led .safely (w .0) (w .1)) q)) (led .came r q));
             attained = λ r q c.
                 ⊎-elim (λ same. attained-as refl (sym same) (tracks .attained r q (omega (arith, same))))
                 (λ w. led-attained r q c (w .0) (w .2) (w .3)) (led .came r q);
-            named = λ r f. ⊎-elim (λ g. tracks .named r (kept r g (ℕ-discrete r s))) (λ w. rw (← w .2) (next-named (w .0) (w .1))) (led .named r f);
+            named = λ r f. ⊎-elim (λ g. tracks .named r (kept r g (ℕ-discrete r s)))
+                (λ w. rw (← w .2) (next-named (w .0) (w .1))) (led .named r f);
             closed = λ r i h l. ⊎-elim (λ f. inl f) (λ same. stays r i h l same (ℕ-discrete r s)) (led .flagged r);
           }
         where

@@ -1,6 +1,6 @@
 -- Rows in blocks, one for each state of a list and in it a row for each input, where the first state stands first and the others rise: each
--- row goes on from the one before it. In a block the next input follows with the same output; from block to block, input 0 of a later state.
--- By induction on the list of states.
+-- row goes on from the one before it. In a block the next input follows with the same output; from block to block, input 0 of a later
+-- state. By induction on the list of states.
 use mathlib.Core.Path.{_≡_, refl, ap, _∙_}
 use mathlib.Core.Logic.{_⊎_, inl, inr, ⊎-elim}
 use mathlib.Core.Bool.{true, not, cond, or-true}
@@ -137,7 +137,8 @@ module _ (n first : ℕ) (some : 0 < n) (output : ℕ → ℕ) (next : ℕ → �
   blocks-last s [] = rw (append-nil (block s)) (ap (λ (r : Row). r .input) (block-last s))
   blocks-last s (r ∷ ss) =
       let ys = blocks (r ∷ ss) in
-      let end : length (block s ++ ys) - 1 ≡ length (block s) + (length ys - 1) = omega (arith, length-append (block s) ys, some-blocks r ss) in
+      let end : length (block s ++ ys) - 1 ≡ length (block s) + (length ys - 1)
+      = omega (arith, length-append (block s) ys, some-blocks r ss) in
       ap (λ (k : ℕ). row (block s ++ ys) k .input) end
       ∙ ap (λ (r : Row). r .input) (getD-append-add (block s) ys (length ys - 1) noRow) ∙ blocks-last r ss
 

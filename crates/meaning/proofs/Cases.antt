@@ -1,6 +1,6 @@
--- C1 to C12 of document 01, C6 as R-2 of document 02 amends it, and beside it the same table at K 1: one list under a single statement, that
--- each call's outcome, computed by the definitions, is what the papers give. "K is 0 and N is 2 where not given, and every lent buffer has
--- room": both buffers have room for N 2 and hold 9s before. Shown by computation.
+-- C1 to C12 of document 01, C6 as R-2 of document 02 amends it, and beside it the same table at K 1: one list under a single statement,
+-- that each call's outcome, computed by the definitions, is what the papers give. "K is 0 and N is 2 where not given, and every lent buffer
+-- has room": both buffers have room for N 2 and hold 9s before. Shown by computation.
 use mathlib.Core.Path.{_≡_, refl}
 use mathlib.Core.List.{List, [], _∷_, _++_, map, flatMap}
 use Prim.Native.Nat.{ℕ}

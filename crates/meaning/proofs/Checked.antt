@@ -42,7 +42,8 @@ module _ {bytes : List ℕ} {K : ℕ} {rows : List ℕ} where
       go : Passes cs ⊎ Failure cs → call .answer ≡ again .answer
       go (inl p) =
           let same : one .right ≡ two .right =
-          same-test (one .right) (two .right) (λ r. two .exactly p .1 (one .exactly p .0 r)) (λ r. one .exactly p .1 (two .exactly p .0 r)) in
+          same-test (one .right) (two .right) (λ r. two .exactly p .1 (one .exactly p .0 r))
+          (λ r. one .exactly p .1 (two .exactly p .0 r)) in
           one .answers ∙ judge-passes cs refused (verdictOn (one .right)) p ∙ ap verdictOn same
           ∙ sym (two .answers ∙ judge-passes cs refused (verdictOn (two .right)) p)
       go (inr f) =
@@ -100,7 +101,8 @@ module _ {bytes : List ℕ} {K : ℕ} {rows : List ℕ} where
             × (startOf (call .answer .verdict) ≡ 0)
         zeros (inl p) u = rw (check-told .grants p) (refl, refl, refl, refl, start-zero (call .promise .right))
         zeros (inr f) u =
-            absurd (u (f .1 .refusal) (code-refused _ (f .1 .refusal) .1 (check-told .refused-exactly (f .1 .refusal) .1 (f .0, f .1, f .2, refl))))
+            absurd (u (f .1 .refusal) (code-refused _ (f .1 .refusal) .1
+            (check-told .refused-exactly (f .1 .refusal) .1 (f .0, f .1, f .2, refl))))
 
     -- where the start position is not safe (R-2), no rows are right
     pub unsafe-check : Passes (checkChecks bytes K rows) → safe K (startPosition K (stated bytes)) ≡ false → code (call .answer) ≡ 1

@@ -1,6 +1,6 @@
 -- Following rows from their first state, judged by counts for each controller state. If the counts are safe, cover the start, and a round
--- leads from no state's counts above the next state's, they guard every run (`counts-keep` of Rows.antt): the rows keep every run to K. If a
--- count is one that some run attains, so is each count after a round from it; and a run that attains an overrun shows that they don't.
+-- leads from no state's counts above the next state's, they guard every run (`counts-keep` of Rows.antt): the rows keep every run to K. If
+-- a count is one that some run attains, so is each count after a round from it; and a run that attains an overrun shows that they don't.
 use mathlib.Core.Path.{_≡_, refl, sym, ap, subst, subst⁻¹}
 use mathlib.Core.Logic.{⊎-elim}
 use mathlib.Core.Bool.{true}

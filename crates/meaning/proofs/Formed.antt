@@ -1,6 +1,6 @@
--- What well-formed rows say. A row is the record of its four bytes. Where rows are well formed, a state that has rows has one for each input,
--- and it stands so many rows after the state's first: there the input is 0, since the row before is of another state; and from row to row
--- the input rises by one, with the state, until it is the last. So a look-up finds that row, and its next state has rows again.
+-- What well-formed rows say. A row is the record of its four bytes. Where rows are well formed, a state that has rows has one for each
+-- input, and it stands so many rows after the state's first: there the input is 0, since the row before is of another state; and from row
+-- to row the input rises by one, with the state, until it is the last. So a look-up finds that row, and its next state has rows again.
 use mathlib.Core.Path.{_≡_, refl, sym, ap, _∙_}
 use mathlib.Core.Bool.{Bool, true, false, not, cond, _&&_, _||_}
 use mathlib.Core.List.{List, List·Memᴰ}

@@ -1,6 +1,6 @@
 -- The rows that solving writes are well formed, of the table's letters, and begin with the start state: they stand in blocks, the start
--- state's first and then the others ascending (Blocks.antt), and each says an output and a next state of the winners. So they pass the check
--- of rows at the same K: of the same table, and by parts of the joined one.
+-- state's first and then the others ascending (Blocks.antt), and each says an output and a next state of the winners. So they pass the
+-- check of rows at the same K: of the same table, and by parts of the joined one.
 use mathlib.Core.Path.{_≡_, refl, ap, _∙_, subst}
 use mathlib.Core.Logic.{inl}
 use mathlib.Core.Bool.{true, false, not}
@@ -65,7 +65,8 @@ module _ (K : ℕ) (t : Table) (X : Set) (good : Good t) (first : FirstSet K t X
       every-of _ (controllerRows K t X)
       (λ r m. let right = member-right K t X covered r m in
       lt-ltb (r .output) (t .outputs)
-      (rw (right .outputs) (output-letter K t X good first (winnerAt K t X (r .state)) (winner-wins K t X good first (r .state) (right .of-winner)))))
+      (rw (right .outputs) (output-letter K t X good first (winnerAt K t X (r .state))
+      (winner-wins K t X good first (r .state) (right .of-winner)))))
 
   has-own : (s : ℕ) → s < length (winners K t X) → hasRows (controllerRows K t X) s ≡ true
   unfolding hasRows
@@ -129,7 +130,8 @@ module _ (K : ℕ) (t : Table) (X : Set) (good : Good t) (first : FirstSet K t X
 module _ {cs : List Check} {K N : ℕ} {rs : List Record} {X : Set} {win con : List ℕ} {s : Solved}
     (told : Answered cs K (tableOf rs) X win con s) (stage : Passes cs → Stage K rs X) where
   pub own-right : code (s .answer) ≡ 0 → (bytes : List ℕ) → stated bytes ≡ tableOf rs → K ≤ 7 → Passes (tableChecks 0 bytes)
-      → N ≤ 256 → full K (tableOf rs) X N ≡ false → (check : CheckCall bytes K (controllerWritten (tableOf rs) s)) → code (check .answer) ≡ 0
+      → N ≤ 256 → full K (tableOf rs) X N ≡ false → (check : CheckCall bytes K (controllerWritten (tableOf rs) s))
+      → code (check .answer) ≡ 0
   unfolding tableOf
   own-right e bytes same patient sound within spare check =
       let c = code-covered told stage e in
@@ -175,6 +177,7 @@ parts-right one two K N call e join room check =
     let X = pairs K (stated one) (stated two) in
     let q = parts-passes one two K N win con (code-covered told stage e .0) in
     let joins = wrote-joined one two (q .pair) join room in
-    own-right {N = N} told stage e (wrote (join .left)) (ap stated joins ∙ ap tableOf (records-back (joined (recordsOf one) (recordsOf two))))
+    own-right {N = N} told stage e (wrote (join .left))
+    (ap stated joins ∙ ap tableOf (records-back (joined (recordsOf one) (recordsOf two))))
     (ltb-false 7 K (q .in-bound)) (join-good one two (q .pair) join room .1 0) (room-grants N win con (q .roomy) .within)
     (passes-at (stageChecks 0 K N both X) (q .last-stage) 0 (bound 0) (lit< tt)) check

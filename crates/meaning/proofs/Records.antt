@@ -1,6 +1,6 @@
--- Laws of records: each is made of four bytes in their place, they come back from their bytes, each has one of four kinds, the records of a kind are the
--- members of that kind, an edge of a table is a record of its list, the number of letters is the least above every letter of a kind, and a
--- record that is not outside the table of limits has every byte within them.
+-- Laws of records: each is made of four bytes in their place, they come back from their bytes, each has one of four kinds, the records of a
+-- kind are the members of that kind, an edge of a table is a record of its list, the number of letters is the least above every letter of a
+-- kind, and a record that is not outside the table of limits has every byte within them.
 use mathlib.Core.Path.{_≡_, refl, sym, ap, _∙_}
 use mathlib.Core.Bool.{true, false, _&&_, _||_}
 use mathlib.Core.List.{List, [], _∷_, flatMap, List·Memᴰ, Memᴰ·cast}

@@ -51,7 +51,8 @@ module _ (rows : List Row) (f : Formed rows) where
       let rest = eqb (r .state) first || ltb (r .state) (s .state) in
       ⊎-elim (λ e. inl (eqb-true (s .state) (r .state) e))
       (λ p. inr (
-        λ e. clash (eqb (s .state) first) (eq-eqb _ first e) (not-true-of (eqb (s .state) first) (both-left (not (eqb (s .state) first)) rest p)),
+        λ e. clash (eqb (s .state) first) (eq-eqb _ first e)
+            (not-true-of (eqb (s .state) first) (both-left (not (eqb (s .state) first)) rest p)),
         ⊎-elim (λ e. inl (eqb-true (r .state) first e)) (λ e. inr (ltb-true (r .state) (s .state) e))
             (either-cases (eqb (r .state) first) (ltb (r .state) (s .state)) (both-right (not (eqb (s .state) first)) rest p)),
       ))
@@ -130,7 +131,8 @@ module _ (rows : List Row) (f : Formed rows) where
   pub inputs-up-to-last : (d i : ℕ) → i + d ≡ length rows - 1 → row rows i .input ≤ lastInput rows
   unfolding inputGoesOn
   inputs-up-to-last zero i e = let last = ap (λ (j : ℕ). row rows j .input) (sym (add-zero i) ∙ e) in omega (arith, last)
-  inputs-up-to-last (suc d) i e = go (eqb (s .state) (r .state)) refl (inputs-on rows f i more) (inputs-up-to-last d (suc i) (omega (arith, e)))
+  inputs-up-to-last (suc d) i e =
+      go (eqb (s .state) (r .state)) refl (inputs-on rows f i more) (inputs-up-to-last d (suc i) (omega (arith, e)))
     where
       r : Row
       r = row rows i
@@ -145,4 +147,5 @@ module _ (rows : List Row) (f : Formed rows) where
           → cond b (eqb (s .input) (suc (r .input))) (eqb (r .input) (lastInput rows) && eqb (s .input) 0) ≡ true
           → s .input ≤ lastInput rows → r .input ≤ lastInput rows
       go true same p under = omega (arith, eqb-true (s .input) (suc (r .input)) p)
-      go false same p under = omega (arith, eqb-true (r .input) (lastInput rows) (both-left (eqb (r .input) (lastInput rows)) (eqb (s .input) 0) p))
+      go false same p under =
+          omega (arith, eqb-true (r .input) (lastInput rows) (both-left (eqb (r .input) (lastInput rows)) (eqb (s .input) 0) p))

@@ -157,7 +157,8 @@ module _ (t u whole : Table) (un : Union t u whole) where
       let begun : Table → ℕ → ℕ = λ v q. cond (v .starts q) (plus K (v .controllerMark q) 1) 0 in
       ap (λ (n : ℕ). tab n (begun whole)) controllers-sum
       ∙ tab-sum (t .controllers) (u .controllers) (begun whole) (begun t) (begun u)
-      (λ q l. rw (un .starts-first q l, un .on-input 0 .mark-first q l)) (λ q l. rw (un .starts-second q l, un .on-input 0 .mark-second q l))
+      (λ q l. rw (un .starts-first q l, un .on-input 0 .mark-first q l))
+      (λ q l. rw (un .starts-second q l, un .on-input 0 .mark-second q l))
 
   -- each half of the whole's step, by each letter
   output-halves : (K o : ℕ) (P : Position) → allSafe K (whole .controllers) P ≡ true

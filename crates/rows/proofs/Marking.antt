@@ -23,7 +23,8 @@ use Rattle.rows.specs.Placed.{Marked}
 pub set-at-each : {A : Type 0} (xs : List A) (k : ℕ) (x d : A) (P : ℕ → A → Type 0) → k < length xs → P k x
     → ((j : ℕ) → (j ≡ k → ⊥) → P j (getD xs j d)) → (j : ℕ) → P j (getD (set xs k x) j d)
 set-at-each xs k x d P l here elsewhere =
-    at-each (λ j. P j (getD (set xs k x) j d)) k (rw (getD-set-same xs k x d l) here) (λ j n. rw (getD-set-other xs k j x d n) (elsewhere j n))
+    at-each (λ j. P j (getD (set xs k x) j d)) k (rw (getD-set-same xs k x d l) here)
+    (λ j n. rw (getD-set-other xs k j x d n) (elsewhere j n))
 
 pub record Marking (rows : List Row) (i : ℕ) (named : List Bool) : Type 0 where
   pub long : length named ≡ 256

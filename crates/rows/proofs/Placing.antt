@@ -1,5 +1,5 @@
--- An array of places, filled from the last row back to row i: for the state of each row from i on it has a row of that state, from i on, and
--- not after that row. When all rows are seen it has the first row of each state. Assumes nothing.
+-- An array of places, filled from the last row back to row i: for the state of each row from i on it has a row of that state, from i on,
+-- and not after that row. When all rows are seen it has the first row of each state. Assumes nothing.
 use mathlib.Core.Path.{_≡_, refl, sym, ap, _∙_}
 use mathlib.Core.List.{List}
 use Prim.Native.Nat.{ℕ, suc, _≤_, _<_}

@@ -1,5 +1,5 @@
--- Which bytes row number i is made of, what a test over the rows has found when a run over them ends, and of how many it held. By the laws of records and of
--- searches. Assumes nothing.
+-- Which bytes row number i is made of, what a test over the rows has found when a run over them ends, and of how many it held. By the laws
+-- of records and of searches. Assumes nothing.
 use mathlib.Core.Path.{_≡_, sym, ap, ap₂, _∙_}
 use mathlib.Core.Bool.{Bool, true, false, and-false}
 use mathlib.Core.List.{List, [], _∷_, _++_, append-nil}

@@ -35,7 +35,8 @@ returns c =
         found .result,
         found .ensures,
         report .ensures .0,
-        report .ensures .1 ∙ ap (λ (b : Bool). cond b before (written (answerBytes (found .result)) before)) (le-ltb (length before) 24 room),
+        report .ensures .1 ∙ ap (λ (b : Bool). cond b before (written (answerBytes (found .result)) before))
+            (le-ltb (length before) 24 room),
       );
     }
 

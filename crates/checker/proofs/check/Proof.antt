@@ -163,7 +163,8 @@ returns-6 c =
     let level = kept .before in
     let all = followable level in
     let told = level .before .before .before .before .before .before .before .before in
-    found-verdict (bytes told) (start told .args .k) (now (start told .args .rows)) (patient told) (passes told) (all .formed) (all .outputs)
+    found-verdict (bytes told) (start told .args .k) (now (start told .args .rows)) (patient told) (passes told)
+    (all .formed) (all .outputs)
     (all .inputs) (kept .keeps .result) (rw (same-table told) at (kept .keeps .ensures)) (c .verdict-on .ensures)
 
 pub check-spec : {M : Type 1} → statement M

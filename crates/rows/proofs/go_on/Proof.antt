@@ -1,5 +1,5 @@
--- `go_on` tries the pairs of neighbours in turn. The loop's invariant: each of the first i rows is followed by one that goes on from it. The
--- measure is the number of rows that are left. Assumes nothing.
+-- `go_on` tries the pairs of neighbours in turn. The loop's invariant: each of the first i rows is followed by one that goes on from it.
+-- The measure is the number of rows that are left. Assumes nothing.
 use mathlib.Core.Path.{_≡_, sym, _∙_, subst}
 use mathlib.Core.Bool.{true}
 use Prim.Native.Nat.{ℕ, _≤_, _-_, _/_}

@@ -1,5 +1,5 @@
--- `lead_on` tries the rows in turn. The loop's invariant: the first i rows lead on. The measure is the number of rows that are left. Assumes
--- nothing.
+-- `lead_on` tries the rows in turn. The loop's invariant: the first i rows lead on. The measure is the number of rows that are left.
+-- Assumes nothing.
 use mathlib.Core.Path.{_≡_, sym, ap, _∙_}
 use mathlib.Core.Bool.{true}
 use Prim.Native.Nat.{ℕ, _≤_, _<_, _-_, _/_}

@@ -48,7 +48,8 @@ loop-again c =
     let low : row rows i .state < 256 = omega (arith, c .before .at .ok) in (
       search needs,
       subst (λ (s : ℕ). Marking rows (i + 1) (set (head .loop .named) s true)) same
-          (marking-more rows i (head .loop .named) (head .loop .inv .1) (omega (arith, rows-count bytes, c .before .before .loop-test .taken)) low),
+          (marking-more rows i (head .loop .named) (head .loop .inv .1)
+          (omega (arith, rows-count bytes, c .before .before .loop-test .taken)) low),
     )
 
 returns : tie.Need-returns Inv-loop μ-loop

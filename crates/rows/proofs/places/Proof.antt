@@ -1,5 +1,5 @@
--- `places` goes back from the last row. The loop's invariant (`Placing`): for the state of each row from i on a row of it is known that is not
--- after that row. The measure is i. Assumes nothing.
+-- `places` goes back from the last row. The loop's invariant (`Placing`): for the state of each row from i on a row of it is known that is
+-- not after that row. The measure is i. Assumes nothing.
 use mathlib.Core.Path.{_≡_, refl, sym, ap, subst}
 use Prim.Native.Nat.{ℕ, suc, _-_, _<_}
 use native.Mathlib.Omega.{arith}

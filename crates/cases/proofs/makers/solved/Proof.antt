@@ -1,5 +1,5 @@
--- The rows that `solved` checks stand within the controller's buffer: there are at most 2,048, of four bytes each. Assumes what the kit's io
--- and os assume.
+-- The rows that `solved` checks stand within the controller's buffer: there are at most 2,048, of four bytes each. Assumes what the kit's
+-- io and os assume.
 use Prim.Native.Nat.{_*_}
 use native.Mathlib.Omega.{arith}
 use borrow.Author.Needs.{needs}

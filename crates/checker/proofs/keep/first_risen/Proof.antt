@@ -1,5 +1,5 @@
--- `first_risen` tries the flags in turn. The loop's invariant: none of the first s is set. The measure is the number of flags that are left.
--- Assumes nothing.
+-- `first_risen` tries the flags in turn. The loop's invariant: none of the first s is set. The measure is the number of flags that are
+-- left. Assumes nothing.
 use mathlib.Core.Path.{_≡_, sym, _∙_}
 use mathlib.Core.Bool.{false}
 use Prim.Native.Nat.{ℕ, _≤_, _<_, _-_}

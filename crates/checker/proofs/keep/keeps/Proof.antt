@@ -1,5 +1,6 @@
 -- `keeps` makes the words of the table's steps, and where the start position is safe it leads a flagged state on until there is none. The
--- loop's invariant is `Tracks`; each time the room for the counts to rise falls, or with the same room the number of flags. Assumes nothing.
+-- loop's invariant is `Tracks`; each time the room for the counts to rise falls, or with the same room the number of flags. Assumes
+-- nothing.
 use mathlib.Core.Path.{_≡_, refl, sym, ap, _∙_}
 use mathlib.Core.Bool.{true, false, true≢false}
 use Prim.Native.Nat.{ℕ, _<_}
@@ -178,8 +179,10 @@ loop-holds c =
     let has = first-has rows (fitting (start .pre) .formed) in
     let few = start .pre .bounded .small .controllers in
     let safely = sym (c .before .safe .ensures) ∙ not-false _ (c .if1 .left) in (
-      arrays-start (start .args .k) t rows few (first .result .state) is-first (omega (arith, first .ok)) (pack .pack .result) (begun pack) has safely,
-      tracks-start (start .args .k) t rows few (first .result .state) is-first (omega (arith, first .ok)) (pack .pack .result) (begun pack) has safely,
+      arrays-start (start .args .k) t rows few (first .result .state) is-first (omega (arith, first .ok))
+          (pack .pack .result) (begun pack) has safely,
+      tracks-start (start .args .k) t rows few (first .result .state) is-first (omega (arith, first .ok))
+          (pack .pack .result) (begun pack) has safely,
     )
 
 slice-aggregate-first-risen : tie.Need-slice-aggregate-first-risen Inv-loop μ-loop

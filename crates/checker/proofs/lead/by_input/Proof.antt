@@ -1,5 +1,5 @@
--- `by_input`: the step in words stands for that of the half of a round they state, so it is safe if that is, and raises the next state's counts
--- to it. Assumes nothing.
+-- `by_input`: the step in words stands for that of the half of a round they state, so it is safe if that is, and raises the next state's
+-- counts to it. Assumes nothing.
 use borrow.Author.Needs.{needs}
 use mathlib.Core.Path.{_≡_, sym, ap, _∙_}
 use mathlib.Core.Bool.{Bool, true≢false}

@@ -1,5 +1,5 @@
--- `by_round` leads the state's counts on by one input after the other. The loop's invariant: for whatever table the words state, they are led
--- on for the first i inputs, from the counts as they were. The measure is the number of inputs left. Assumes nothing.
+-- `by_round` leads the state's counts on by one input after the other. The loop's invariant: for whatever table the words state, they are
+-- led on for the first i inputs, from the counts as they were. The measure is the number of inputs left. Assumes nothing.
 use mathlib.Core.Path.{_≡_, sym, ap, _∙_}
 use mathlib.Core.Bool.{Bool, true, true≢false}
 use mathlib.Core.List.{List}
@@ -116,7 +116,8 @@ by-input-requires : tie.Need-by-input-requires Inv-loop μ-loop
 by-input-requires c κs = search needs
 
 -- the arrays stay as long as they were
-arrays : (c : tie.After-by-input Inv-loop μ-loop) → ForAll (c .by-input .last .1 .1 .1 .1 .1 .1 .0) (c .by-input .last .1 .1 .1 .1 .1 .1 .1 .0)
+arrays : (c : tie.After-by-input Inv-loop μ-loop)
+    → ForAll (c .by-input .last .1 .1 .1 .1 .1 .1 .0) (c .by-input .last .1 .1 .1 .1 .1 .1 .1 .0)
 arrays c =
     record {
       counts = c .by-input .kept .1 .1 .1 .1 .1 .1 .0 ∙ at c .loop .inv .1 .counts;
