@@ -9,7 +9,7 @@ use crate::follow::{longest, single};
 use crate::linked;
 use crate::make::{
     any_good, falling, letters, overwound_rows, strategy, winding_rows, winding_table, Dice,
-    MOST_ENTRIES,
+    MOST_VISITS,
 };
 use crate::play::Explored;
 use crate::raising;
@@ -51,7 +51,7 @@ fn by_runs(call: &Call) {
 
 fn by_longest(call: &Call) {
     let (table, controller) = read_both(call);
-    black_box(longest::most_entries(&table, &controller));
+    black_box(longest::most_visits(&table, &controller));
 }
 
 /// False if two differ in an answer, which is printed.
@@ -74,7 +74,7 @@ fn winding_lines() -> impl Iterator<Item = Line> {
     let stored = [("winding, code 0", winding_rows()), ("overwound, code 1", overwound_rows())];
     stored.into_iter().map(move |(name, rows)| Line {
         name: name.to_string(),
-        calls: vec![check::call(&table, MOST_ENTRIES, &rows)],
+        calls: vec![check::call(&table, MOST_VISITS, &rows)],
     })
 }
 

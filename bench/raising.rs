@@ -1,6 +1,6 @@
-//! The method of the proved check in plain Rust: the largest counts of the runs that can be in each controller
-//! state are raised until nothing changes. Here the states whose counts have risen wait in a list. It reads
-//! rows in one go over them, as fast as may be.
+//! The method of the proved check in plain Rust: the largest counts of the runs that can be in each
+//! controller state are raised until nothing changes. Here the states whose counts have risen wait in a
+//! list. It reads rows in one go over them, as fast as may be.
 
 use crate::rules::codes::{LETTERS, REALIZABLE, ROWS, UNREALIZABLE};
 use crate::rules::read::read;
@@ -64,7 +64,11 @@ fn keeps(table: &Table, patience: i8, rows: &[u8], places: &[usize; 256]) -> boo
     let (controllers, worlds) = (&table.controller, &table.world);
     let mut most = [[-1; 8]; 256];
     let mut waits = [false; 256];
-    most[rows[0] as usize] = table.start_position();
+    let start = table.start_position(patience);
+    if start.iter().any(|count| *count > patience) {
+        return false;
+    }
+    most[rows[0] as usize] = start;
     let mut waiting = VecDeque::from([rows[0] as usize]);
     while let Some(state) = waiting.pop_front() {
         waits[state] = false;

@@ -3,7 +3,7 @@
 
 use crate::call::{lent, Buffer, Call, Layout, Outcome};
 use crate::calls::{check, join, parts, solve, solved, ALL};
-use crate::make::{overwound_rows, winding_rows, winding_table, MOST_ENTRIES};
+use crate::make::{overwound_rows, winding_rows, winding_table, MOST_VISITS};
 use crate::rules::answer::{Answer, ANSWER_BYTES};
 use crate::rules::codes::{FULL, NAMES, REALIZABLE, ROWS, UNREALIZABLE};
 use crate::session::{Session, EXACT};
@@ -205,9 +205,9 @@ fn of_rows(session: &mut Session) {
         (check::call(&fullest(), 0, &rows), REALIZABLE),
         (check::call(&fullest(), 0, &longer(&[255, 7, 7, 0])), ROWS),
         (check::call(&fullest(), 0, &longer(&[255])), ROWS),
-        (check::call(&table, MOST_ENTRIES, &winding), REALIZABLE),
-        (check::call(&table, MOST_ENTRIES - 1, &winding), UNREALIZABLE),
-        (check::call(&table, MOST_ENTRIES, &overwound_rows()), UNREALIZABLE),
+        (check::call(&table, MOST_VISITS, &winding), REALIZABLE),
+        (check::call(&table, MOST_VISITS - 1, &winding), UNREALIZABLE),
+        (check::call(&table, MOST_VISITS, &overwound_rows()), UNREALIZABLE),
     ];
     for (call, code) in &cases {
         let wanted = Some(Answer { code: *code, ..Answer::default() });
@@ -215,12 +215,12 @@ fn of_rows(session: &mut Session) {
     }
 }
 
-/// Tables for the desk program: OWED first, then the other two and their join, every fault, the
-/// hard ones, and lengths about the longest.
+/// Tables for the desk program: OWED first, then the other two and their join, those with two starts, every
+/// fault, the hard ones, and lengths about the longest.
 pub fn tables() -> Vec<Vec<u8>> {
     let vectors = Vectors::read(VECTORS);
-    let mut tables =
-        ["OWED", "SILENT", "FIRST", "OWED_SILENT"].map(|name| vectors.table(name)).to_vec();
+    let names = ["OWED", "SILENT", "FIRST", "OWED_SILENT", "TWO_STARTS", "CHOICE"];
+    let mut tables = names.map(|name| vectors.table(name)).to_vec();
     for case in vectors.cases.iter().filter(|case| case.name.starts_with("fault")) {
         if let Part::Read(bytes) = &case.parts[0] {
             tables.push(bytes.clone());

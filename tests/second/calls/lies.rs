@@ -1,23 +1,24 @@
 //! Wrong outcomes of a call that solved a table: each is one that no oracle would have to deny, so that
 //! it is seen whether the exploration alone sees through it.
 
-use super::solved::{answer, patience};
+use super::solved::{answer, claim, free_start, patience, written};
 use super::two::{joined, read_both};
 use crate::call::{Call, Lie, Outcome};
 use crate::make::Dice;
-use crate::play::WHOLE;
+use crate::play::{rows as played, Claim, WHOLE};
 use crate::rules::answer::Answer;
 use crate::rules::codes::{REALIZABLE, UNREALIZABLE};
 use crate::rules::read::read;
 use crate::rules::table::Table;
 
-pub static LIES: [Lie; 6] = [
+pub static LIES: [Lie; 7] = [
     Lie { name: "a winner raised by one in one count", tell: raised },
     Lie { name: "a winner left out", tell: left_out },
     Lie { name: "another output in the rows of a state", tell: another_output },
     Lie { name: "another next state in a row", tell: another_next },
     Lie { name: "unrealizable though the start wins", tell: not_realizable },
     Lie { name: "realizable though the start loses", tell: not_unrealizable },
+    Lie { name: "as if the first visit went free", tell: as_if_free },
 ];
 
 /// The answer of an outcome that has winners.
@@ -124,4 +125,22 @@ fn not_realizable(call: &Call, right: &Outcome, _: &mut Dice) -> Option<Outcome>
 fn not_unrealizable(call: &Call, right: &Outcome, _: &mut Dice) -> Option<Outcome> {
     solved(call, right).filter(|answer| answer.code == UNREALIZABLE)?;
     with_verdict(call, right, REALIZABLE)
+}
+
+/// What an engine writes that doesn't count the mark of a start state, where it matters: the same winners,
+/// and right rows for them that begin elsewhere, or begin at all.
+fn as_if_free(call: &Call, right: &Outcome, _: &mut Dice) -> Option<Outcome> {
+    let right_answer = solved(call, right)?;
+    let table = last_table(call)?;
+    let [winners, _] = written(call, &table, right);
+    let start = free_start(&table, winners)?;
+    let answer = Answer { code: REALIZABLE, start: start as u32, ..right_answer };
+    if answer == right_answer {
+        return None;
+    }
+    let rows = played::all(&Claim { start, ..claim(call, &table, right)? }).ok()?;
+    let mut outcome = with(call, right, "controller", &rows);
+    outcome.write(call, "answer", &answer.bytes());
+    outcome.result = REALIZABLE;
+    Some(outcome)
 }

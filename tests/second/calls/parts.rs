@@ -1,12 +1,12 @@
 //! `desk_parts`: solves two tables by parts.
 
 use super::lies::LIES;
-use super::solve::{refused_room, tight};
-use super::solved::{self, check_room, patience, room, MOST_ROOM};
+use super::solve::{ladder, refused_room, tight};
+use super::solved::{self, check_room, patience, put_unsafe_start, room, MOST_ROOM};
 use super::two::{damaged_pair, joined, notes, pair, read_both};
 use crate::call::{least, Call, Feature, Found, Least, Operation, Outcome, Use, Voice, ANY};
 use crate::engines::fit_for;
-use crate::make::{good, two_sparse, Letters};
+use crate::make::{falling_from_mark, good, letters, two_sparse, with_marked_start, Letters};
 use crate::play::Explored;
 use crate::rules::answer::Answer;
 use crate::rules::codes::*;
@@ -81,11 +81,13 @@ fn features(call: &Call, outcome: &Outcome) -> Vec<Feature> {
 }
 
 fn draw(session: &mut Session) {
-    match session.dice.below(8) {
+    match session.dice.below(10) {
         0..=2 => ample(session),
         3 | 4 => any_room(session),
         5 => large(session),
         6 => faults(session),
+        7 => unsafe_start(session),
+        8 => from_marks(session),
         _ => short(session),
     }
 }
@@ -123,6 +125,27 @@ fn large(session: &mut Session) {
     tight(session, &call, &outcome);
 }
 
+/// Both from marked starts, for K = 0, 1 and so on until the code isn't 1.
+fn from_marks(session: &mut Session) {
+    let dice = &mut session.dice;
+    let letters = letters(dice);
+    let [first, second] = [0, 1].map(|_| {
+        let states = dice.between(2, 4);
+        falling_from_mark(dice, letters, states)
+    });
+    ladder(session, |patience| call(&first, &second, patience, MOST_ROOM));
+}
+
+/// A marked start of either table at K 0.
+fn unsafe_start(session: &mut Session) {
+    let dice = &mut session.dice;
+    let letters = letters(dice);
+    let mut tables = [0, 1].map(|_| good(dice, letters, 4));
+    let which = dice.below(2);
+    tables[which] = with_marked_start(dice, &tables[which]);
+    put_unsafe_start(session, &call(&tables[0], &tables[1], 0, MOST_ROOM));
+}
+
 fn faults(session: &mut Session) {
     for _ in 0..6 {
         let [first, second] = damaged_pair(&mut session.dice);
@@ -140,14 +163,17 @@ fn short(session: &mut Session) {
     session.put_knowing(&call, "BOUND or ROOM", |outcome| outcome.result == code);
 }
 
-static LEAST: [Least; 57] = [
+static LEAST: [Least; 67] = [
     least(REALIZABLE, ANY, 1_500),
     least(REALIZABLE, "8 states and 8 letters", 90),
     least(REALIZABLE, "K over 0", 1_000),
     least(REALIZABLE, "a buffer after a wall", 1_000),
     least(REALIZABLE, "a buffer at any address", 1_000),
     least(REALIZABLE, "a buffer before a wall", 1_500),
+    least(REALIZABLE, "a marked start", 700),
+    least(REALIZABLE, "a marked start and an unmarked one", 600),
     least(REALIZABLE, "by both engines", 1_000),
+    least(REALIZABLE, "only the mark of a start decides where to begin", 70),
     least(REALIZABLE, "room tight", 200),
     least(REALIZABLE, "several edges for a letter", 1_000),
     least(REALIZABLE, "several winners", 900),
@@ -155,7 +181,12 @@ static LEAST: [Least; 57] = [
     least(UNREALIZABLE, ANY, 2_000),
     least(UNREALIZABLE, "8 states and 8 letters", 200),
     least(UNREALIZABLE, "K over 0", 1_000),
+    least(UNREALIZABLE, "a marked start", 2_500),
+    least(UNREALIZABLE, "a marked start and an unmarked one", 2_000),
+    least(UNREALIZABLE, "an unsafe start", 1_200),
     least(UNREALIZABLE, "by both engines", 2_000),
+    least(UNREALIZABLE, "only the mark of a safe start decides", 120),
+    least(UNREALIZABLE, "only the mark of an unsafe start decides", 150),
     least(UNREALIZABLE, "room tight", 500),
     least(UNREALIZABLE, "several edges for a letter", 2_000),
     least(UNREALIZABLE, "two tables in the same bytes", 100),
@@ -189,6 +220,8 @@ static LEAST: [Least; 57] = [
     least(FULL, ANY, 1_000),
     least(FULL, "8 states and 8 letters", 100),
     least(FULL, "K over 0", 600),
+    least(FULL, "a marked start", 400),
+    least(FULL, "an unsafe start", 150),
     least(FULL, "by both engines", 700),
     least(FULL, "full in the last stage", 150),
     least(FULL, "full in the list of pairs", 150),

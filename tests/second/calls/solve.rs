@@ -1,10 +1,12 @@
 //! `desk_solve`: solves a table.
 
 use super::lies::LIES;
-use super::solved::{self, check_room, patience, room, with_room, MOST_ROOM};
+use super::solved::{self, check_room, patience, put_unsafe_start, room, with_room, MOST_ROOM};
 use crate::call::{least, Call, Feature, Found, Least, Operation, Outcome, Use, Voice, ANY};
 use crate::engines::fit_for;
-use crate::make::{any_good, changed, damaged, dense, two_faults};
+use crate::make::{
+    any_good, changed, damaged, dense, falling_from_mark, letters, two_faults, with_marked_start,
+};
 use crate::play::Explored;
 use crate::rules::answer::Answer;
 use crate::rules::codes::*;
@@ -67,12 +69,13 @@ fn features(call: &Call, outcome: &Outcome) -> Vec<Feature> {
 }
 
 fn draw(session: &mut Session) {
-    match session.dice.below(9) {
-        0..=2 => ladder(session),
+    match session.dice.below(10) {
+        0..=2 => any_ladder(session),
         3 => any_room(session),
         4 => dense_table(session),
         5 | 6 => faults(session),
         7 => short(session),
+        8 => unsafe_start(session),
         _ => damaged_and_short(session),
     }
     if session.dice.below(200) == 0 {
@@ -80,11 +83,23 @@ fn draw(session: &mut Session) {
     }
 }
 
+/// Of any table, and now and then of one whose least K may hang on the mark of a start.
+fn any_ladder(session: &mut Session) {
+    let dice = &mut session.dice;
+    let table = match dice.chance(75) {
+        true => any_good(dice),
+        false => {
+            let (letters, states) = (letters(dice), dice.between(2, 8));
+            falling_from_mark(dice, letters, states)
+        }
+    };
+    ladder(session, |patience| call(&table, patience, MOST_ROOM));
+}
+
 /// As the desk program does: K = 0, 1, up to 7, stopping after the first code other than 1.
-fn ladder(session: &mut Session) {
-    let table = any_good(&mut session.dice);
+pub fn ladder(session: &mut Session, call: impl Fn(u32) -> Call) {
     for patience in 0..8 {
-        let call = call(&table, patience, MOST_ROOM);
+        let call = call(patience);
         let outcome = session.put(&call);
         if outcome.result != UNREALIZABLE || patience == 7 {
             return tight(session, &call, &outcome);
@@ -121,6 +136,13 @@ fn dense_table(session: &mut Session) {
     let first = call(&table, session.dice.below(2) as u32, MOST_ROOM);
     let ample = session.put(&first);
     tight(session, &first, &ample);
+}
+
+/// A marked start at K 0.
+fn unsafe_start(session: &mut Session) {
+    let table = any_good(&mut session.dice);
+    let table = with_marked_start(&mut session.dice, &table);
+    put_unsafe_start(session, &call(&table, 0, MOST_ROOM));
 }
 
 /// One fault, or two at once: then the order of the checks decides.
@@ -188,14 +210,17 @@ fn hard(session: &mut Session) {
 }
 
 /// NOTHING isn't here: the position without any run stays without runs, so some position always wins.
-static LEAST: [Least; 45] = [
+static LEAST: [Least; 55] = [
     least(REALIZABLE, ANY, 2_000),
     least(REALIZABLE, "8 states and 8 letters", 150),
     least(REALIZABLE, "K over 0", 1_500),
     least(REALIZABLE, "a buffer after a wall", 1_500),
     least(REALIZABLE, "a buffer at any address", 1_500),
     least(REALIZABLE, "a buffer before a wall", 2_000),
+    least(REALIZABLE, "a marked start", 800),
+    least(REALIZABLE, "a marked start and an unmarked one", 600),
     least(REALIZABLE, "by both engines", 2_000),
+    least(REALIZABLE, "only the mark of a start decides where to begin", 80),
     least(REALIZABLE, "room tight", 300),
     least(REALIZABLE, "several edges for a letter", 1_000),
     least(REALIZABLE, "several starts", 1_500),
@@ -203,7 +228,12 @@ static LEAST: [Least; 45] = [
     least(UNREALIZABLE, ANY, 4_000),
     least(UNREALIZABLE, "8 states and 8 letters", 300),
     least(UNREALIZABLE, "K over 0", 2_000),
+    least(UNREALIZABLE, "a marked start", 2_500),
+    least(UNREALIZABLE, "a marked start and an unmarked one", 1_500),
+    least(UNREALIZABLE, "an unsafe start", 1_200),
     least(UNREALIZABLE, "by both engines", 3_000),
+    least(UNREALIZABLE, "only the mark of a safe start decides", 120),
+    least(UNREALIZABLE, "only the mark of an unsafe start decides", 250),
     least(UNREALIZABLE, "room tight", 200),
     least(UNREALIZABLE, "several edges for a letter", 3_000),
     least(UNREALIZABLE, "several starts", 2_000),
@@ -230,6 +260,8 @@ static LEAST: [Least; 45] = [
     least(FULL, ANY, 600),
     least(FULL, "8 states and 8 letters", 200),
     least(FULL, "K over 0", 500),
+    least(FULL, "a marked start", 150),
+    least(FULL, "an unsafe start", 20),
     least(FULL, "by both engines", 500),
     least(FULL, "room one less", 500),
     least(FULL, "several edges for a letter", 500),

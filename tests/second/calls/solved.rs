@@ -7,6 +7,7 @@ use crate::play::{self, Claim, Explored};
 use crate::rules::answer::{Answer, ANSWER_BYTES};
 use crate::rules::codes::{BOUND, FULL, REALIZABLE, ROOM, UNREALIZABLE};
 use crate::rules::table::{Position, Table};
+use crate::session::Session;
 
 pub const MOST_ROOM: u32 = 256;
 
@@ -134,6 +135,18 @@ pub fn written<'a>(call: &Call, table: &Table, outcome: &'a Outcome) -> [&'a [u8
 /// Up to so many the plain engine tells the world when each position fell, and above it the other.
 const FEW_POSITIONS: u64 = 1_000;
 
+/// What an outcome says of the table that was solved, alone or joined.
+pub fn claim<'a>(call: &Call, table: &'a Table, outcome: &'a Outcome) -> Option<Claim<'a>> {
+    let [winners, rows] = written(call, table, outcome);
+    Some(Claim {
+        table,
+        patience: patience(call) as i8,
+        winners: from_winner_bytes(winners),
+        rows: (outcome.result == REALIZABLE).then_some(rows),
+        start: answer(call, outcome)?.start as usize,
+    })
+}
+
 /// Demand 2: what the winners allow is kept by the controller written, and nothing else could be.
 pub fn property(
     call: &Call,
@@ -144,21 +157,23 @@ pub fn property(
     if outcome.result > UNREALIZABLE {
         return Vec::new();
     }
-    let (Some(table), Some(answer)) = (table, answer(call, outcome)) else {
+    let Some(claim) = table.as_ref().and_then(|table| claim(call, table, outcome)) else {
         return vec![(play::CHECKS[0], "solved what can't be solved".to_string())];
     };
-    let [winners, rows] = written(call, &table, outcome);
-    let claim = Claim {
-        table: &table,
-        patience: patience(call) as i8,
-        winners: from_winner_bytes(winners),
-        rows: (outcome.result == REALIZABLE).then_some(rows),
-        start: answer.start as usize,
-    };
-    let few = table.positions(patience(call)) <= FEW_POSITIONS;
+    let few = claim.table.positions(patience(call)) <= FEW_POSITIONS;
     let engine = if few { Engine::Plain } else { Engine::Antichain };
-    let rounds = engine.rounds(&table, claim.patience);
+    let rounds = engine.rounds(claim.table, claim.patience);
     play::faults(&claim, rounds.as_deref(), explored)
+}
+
+/// "An unsafe start position is not covered by any winner: code 1" (reading 22), and then "winners written,
+/// controller buffer untouched, start 0". The call has such a start, and room for every set.
+pub fn put_unsafe_start(session: &mut Session, call: &Call) {
+    session.put_knowing(call, "1 for an unsafe start", |outcome| {
+        let answer = answer(call, outcome).expect("the answer buffer is long enough");
+        let untouched = outcome.bytes(call, "controller").starts_with(call.bytes("controller"));
+        (answer.code, answer.start) == (UNREALIZABLE, 0) && answer.winners > 0 && untouched
+    });
 }
 
 fn several_edges(table: &Table) -> bool {
@@ -171,15 +186,46 @@ fn is_large(table: &Table) -> bool {
     [&table.controller, &table.world].iter().all(|side| side.states == 8 && side.letters == 8)
 }
 
+/// The marks of the start states.
+fn start_marks(table: &Table) -> Vec<i8> {
+    let starts = (0..8).filter(|state| table.starts >> state & 1 == 1);
+    starts.map(|state| table.controller.marks[state]).collect()
+}
+
+fn unsafe_start(table: &Table, patience: u32) -> bool {
+    start_marks(table).iter().any(|mark| *mark as u32 > patience)
+}
+
 /// What a table of a call has.
 pub fn of_table(table: &Table, patience: u32) -> Vec<Feature> {
+    let marks = start_marks(table);
+    let marked = marks.iter().any(|mark| *mark > 0);
     let named = [
         (patience > 0 && patience < 8, "K over 0"),
-        (table.starts.count_ones() > 1, "several starts"),
+        (marks.len() > 1, "several starts"),
+        (marked, "a marked start"),
+        (marked && marks.contains(&0), "a marked start and an unmarked one"),
+        (unsafe_start(table, patience), "an unsafe start"),
         (several_edges(table), "several edges for a letter"),
         (is_large(table), "8 states and 8 letters"),
     ];
     named.into_iter().filter(|(holds, _)| *holds).map(|(_, feature)| feature).collect()
+}
+
+/// A verdict of 1 that would be 0 if the first visit went free.
+pub fn decided_by_mark(table: &Table, patience: u32) -> Feature {
+    if unsafe_start(table, patience) {
+        "only the mark of an unsafe start decides"
+    } else {
+        "only the mark of a safe start decides"
+    }
+}
+
+/// The first of the written winners that the start would be below if the first visit went free.
+pub fn free_start(table: &Table, winners: &[u8]) -> Option<usize> {
+    let is_start = |state: usize| table.starts >> state & 1 == 1;
+    let above = |winner: &[u8]| (0..8).all(|state| winner[state] > 0 || !is_start(state));
+    winners.chunks_exact(8).position(above)
 }
 
 /// What the last table of a call and its outcome have.
@@ -192,6 +238,12 @@ pub fn features(call: &Call, table: Option<Table>, outcome: &Outcome) -> Vec<Fea
         }
     };
     let [winners, _] = written(call, &table, outcome);
+    let start = answer(call, outcome).map_or(0, |answer| answer.start as usize);
+    let free = free_start(&table, winners);
+    let lost = outcome.result == UNREALIZABLE && free.is_some();
+    note(lost, decided_by_mark(&table, patience(call)));
+    let elsewhere = outcome.result == REALIZABLE && free != Some(start);
+    note(elsewhere, "only the mark of a start decides where to begin");
     note(winners.len() > 8, "several winners");
     note(winners.iter().any(|byte| *byte > 0), "winners beyond the bottom one");
     note(crate::engines::fit_for(&table, patience(call).min(7)).len() == 2, "by both engines");

@@ -1,22 +1,23 @@
-//! By the most entries of any run: pairs of a controller state and a table state that lead to each other
+//! By the most visits of any run: pairs of a controller state and a table state that lead to each other
 //! are one part of the graph. Where a step inside such a part enters a marked state, runs go round and
-//! enter without end. Else entries are made on the way from part to part alone, and that way is finite.
+//! visit it without end. Else marked states are visited at the start and on the way from part to part
+//! alone, and that way is finite.
 
 use crate::rules::rows::Controller;
 use crate::rules::table::Table;
 
-/// For each pair, the pairs that a round leads to and the most entries on the way. The last place is
-/// that of no pair: it leads to the start pairs.
+/// For each pair, the pairs that a round leads to and the most visits on the way. The last place is
+/// that of no pair: it leads to the start pairs, each with its first visit.
 type Graph = Vec<Vec<(usize, u32)>>;
 
 const PAIRS: usize = 256 * 8;
 
-/// Whether a state has an edge to another on a letter, and the mark of that other.
+/// The mark of a state, if it is one of those led to.
 fn edge(targets: u8, marks: &[i8; 8], to: usize) -> Option<u32> {
     (targets >> to & 1 == 1).then_some(marks[to] as u32)
 }
 
-/// The most entries by which a round leads from one controller-turn state to another.
+/// The most visits by which a round leads from one controller-turn state to another.
 fn most_by_round(table: &Table, letters: (usize, usize), from: usize, to: usize) -> Option<u32> {
     let (output, input) = letters;
     let by = |middle: usize| {
@@ -27,7 +28,8 @@ fn most_by_round(table: &Table, letters: (usize, usize), from: usize, to: usize)
     (0..table.world.states).filter_map(by).max()
 }
 
-fn graph(table: &Table, controller: &Controller) -> Graph {
+/// The first visit of a start state counts as `first` has it.
+fn graph(table: &Table, controller: &Controller, first: &[i8; 8]) -> Graph {
     let mut graph = vec![Vec::new(); PAIRS + 1];
     let steps = controller.states.iter().flat_map(|(number, state)| {
         let inputs = state.next.iter().enumerate();
@@ -36,14 +38,14 @@ fn graph(table: &Table, controller: &Controller) -> Graph {
     let states = table.controller.states;
     for (number, letters, next) in steps {
         for (from, to) in (0..states * states).map(|both| (both / states, both % states)) {
-            if let Some(entries) = most_by_round(table, letters, from, to) {
-                graph[8 * number + from].push((8 * next + to, entries));
+            if let Some(visits) = most_by_round(table, letters, from, to) {
+                graph[8 * number + from].push((8 * next + to, visits));
             }
         }
     }
-    let start = table.start_position();
-    let first = |state: usize| (8 * controller.start as usize + state, start[state] as u32);
-    graph[PAIRS] = (0..8).filter(|state| start[*state] >= 0).map(first).collect();
+    let start = 8 * controller.start as usize;
+    let begin = |state| Some((start + state, edge(table.starts, first, state)?));
+    graph[PAIRS] = (0..8).filter_map(begin).collect();
     graph
 }
 
@@ -84,21 +86,30 @@ fn parts(graph: &Graph, order: &[usize]) -> Vec<usize> {
     parts
 }
 
-/// The most entries of marked states that a run makes; empty if there is no most.
-pub fn most_entries(table: &Table, controller: &Controller) -> Option<u32> {
-    let graph = graph(table, controller);
-    let mut order = finished(&graph);
-    let parts = parts(&graph, &order);
+/// The most visits on any way from no pair; empty if there is no most.
+fn most(graph: &Graph) -> Option<u32> {
+    let mut order = finished(graph);
+    let parts = parts(graph, &order);
     order.sort_by_key(|pair| parts[*pair]);
     let mut most = vec![0; graph.len()];
     for pair in order {
-        for (to, entries) in &graph[pair] {
+        for (to, visits) in &graph[pair] {
             let (here, there) = (parts[pair], parts[*to]);
-            if here == there && *entries > 0 {
+            if here == there && *visits > 0 {
                 return None;
             }
-            most[there] = most[there].max(most[here] + entries);
+            most[there] = most[there].max(most[here] + visits);
         }
     }
     most.into_iter().max()
+}
+
+/// The most visits of marked states that a run makes; empty if there is no most.
+pub fn most_visits(table: &Table, controller: &Controller) -> Option<u32> {
+    most(&graph(table, controller, &table.controller.marks))
+}
+
+/// The same if the first visit went free: only what is entered later counts.
+pub fn most_entries(table: &Table, controller: &Controller) -> Option<u32> {
+    most(&graph(table, controller, &[0; 8]))
 }

@@ -1,11 +1,13 @@
-//! Demand 3 on calls, and what is said of rows: what several calls together have to fulfil. Each file is one
-//! law; it draws tables, puts calls and notes under its own name what came up.
+//! Demand 3 on calls, and what is said of rows and of starts: what several calls together have to fulfil.
+//! Each file is one law; it draws tables, puts calls and notes under its own name what came up.
 
 mod afresh;
+mod entered;
 mod grouped;
 mod halves;
 mod itself;
 mod kept;
+mod starts;
 mod swapped;
 
 use crate::call::{Call, Feature, Outcome};
@@ -26,13 +28,15 @@ pub struct Law {
     pub least: u64,
 }
 
-pub const ALL: [Law; 6] = [
+pub const ALL: [Law; 8] = [
     Law { name: "by parts and afresh", draw: afresh::draw, says: &afresh::SAYS, least: 500 },
     Law { name: "grouped", draw: grouped::draw, says: &grouped::SAYS, least: 300 },
     Law { name: "swapped", draw: swapped::draw, says: &swapped::SAYS, least: 1_000 },
     Law { name: "with itself", draw: itself::draw, says: &itself::SAYS, least: 500 },
     Law { name: "kept", draw: kept::draw, says: &kept::SAYS, least: 500 },
     Law { name: "halves", draw: halves::draw, says: &halves::SAYS, least: 500 },
+    Law { name: "entered", draw: entered::draw, says: &entered::SAYS, least: 400 },
+    Law { name: "other starts", draw: starts::draw, says: &starts::SAYS, least: 400 },
 ];
 
 /// The join of two tables, where it can be made.

@@ -18,12 +18,12 @@ mod winding;
 pub use damage::{damaged, two_faults};
 pub use dense::{dense, two_sparse};
 pub use dice::Dice;
-pub use falling::falling;
+pub use falling::{falling, falling_from_mark};
 pub use misshapen::BREAKS;
 pub use strategies::{bent, copied, foreign, strategy, strategy_of};
-pub use winding::{overwound_rows, winding_rows, winding_table, MOST_ENTRIES};
+pub use winding::{overwound_rows, winding_rows, winding_table, MOST_VISITS};
 
-use crate::rules::record::{records, Record};
+use crate::rules::record::{records, Record, FIRST, MARKED};
 use loose::without_plan;
 use ranked::ranked;
 use requests::requests;
@@ -75,4 +75,26 @@ pub fn changed(dice: &mut Dice, good: &[u8]) -> Vec<u8> {
         set.insert([kind, from, letter, dice.below(sides[kind as usize - 3]) as u8]);
     }
     set.into_iter().collect::<Vec<_>>().concat()
+}
+
+/// The same table with one of its start states marked.
+pub fn with_marked_start(dice: &mut Dice, good: &[u8]) -> Vec<u8> {
+    let mut all = records(good);
+    let is_start = |record: &&mut Record| record[0] == 1 && record[2] & FIRST != 0;
+    let mut starts: Vec<&mut Record> = all.iter_mut().filter(is_start).collect();
+    let chosen = dice.below(starts.len());
+    starts[chosen][2] |= MARKED;
+    all.concat()
+}
+
+/// The same table with other start states: any, one at least.
+pub fn with_other_starts(dice: &mut Dice, good: &[u8]) -> Vec<u8> {
+    let mut all = records(good);
+    let states = all.iter().filter(|record| record[0] == 1).count();
+    let (chosen, others) = (dice.below(states), dice.below(1 << states));
+    for (state, record) in all[..states].iter_mut().enumerate() {
+        let is_start = state == chosen || others >> state & 1 == 1;
+        record[2] = record[2] & MARKED | if is_start { FIRST } else { 0 };
+    }
+    all.concat()
 }

@@ -22,8 +22,8 @@ const CLIMB: usize = 0;
 const STAY: [usize; 6] = [1, 3, 4, 5, 6, 7];
 const AGAIN: usize = 2;
 
-/// Every run keeps to so many entries.
-pub const MOST_ENTRIES: u32 = 7;
+/// Every run keeps to so many visits of marked states.
+pub const MOST_VISITS: u32 = 7;
 
 pub fn winding_table() -> Vec<u8> {
     let mut draft = Draft::new(Letters { outputs: 8, inputs: 8 }, 8, 8);

@@ -1,7 +1,7 @@
 //! Rows from elsewhere are played against every input from the start, in every pair of a controller's state
 //! and a set of runs that this leads to.
 
-use super::runs::{after_round, spent, Runs};
+use super::runs::{after_round, at_start, keep_to, Runs};
 use super::Explored;
 use crate::rules::rows::Controller;
 use crate::rules::table::Table;
@@ -29,7 +29,11 @@ fn led_to(
 
 /// Whether every run keeps to K; empty if the play was broken off as too long.
 pub fn keeps(table: &Table, patience: i8, controller: &Controller) -> Option<bool> {
-    let mut waiting = vec![(controller.start, spent(&table.start_position()))];
+    let begin = at_start(table);
+    if !keep_to(&begin, patience) {
+        return Some(false);
+    }
+    let mut waiting = vec![(controller.start, begin)];
     let mut seen: HashSet<(u8, Runs)> = waiting.iter().copied().collect();
     while let Some(pair) = waiting.pop() {
         let Some(after) = led_to(table, patience, controller, &pair) else { return Some(false) };

@@ -1,6 +1,6 @@
-//! Demand 2 by exploration, both ways. Runs are followed one by one and their entries are counted
-//! without a cap, so that the counting of the engines plays no part: what the winners allow is kept,
-//! and what they don't allow is lost.
+//! Demand 2 by exploration, both ways. Runs are followed one by one and their visits are counted, that of
+//! the first state too, without a cap, so that the counting of the engines plays no part: what the winners
+//! allow is kept, and what they don't allow is lost.
 
 pub mod controller;
 pub mod elsewhere;
@@ -69,7 +69,7 @@ pub const WHOLE: u64 = 300;
 fn world_fault(claim: &Claim, rounds: &dyn Rounds, explored: &mut Explored) -> Option<String> {
     let mut world = World::new(claim, rounds);
     if claim.rows.is_none() {
-        match world.wins_from(&claim.table.start_position()) {
+        match world.wins_from_start() {
             Some(true) => explored.lost_starts += 1,
             Some(false) => return Some("the world doesn't win from the start".to_string()),
             None => explored.broken_off += 1,

@@ -1,7 +1,7 @@
 //! The rows as document 01 says them, from the list of winners and the runs that have spent their
 //! counts. Where no rows are written the winners have to be closed all the same.
 
-use super::runs::{after_round, most_spent, spent};
+use super::runs::{after_round, at_start, most_spent, spent};
 use super::winners::first_above;
 use super::Claim;
 use crate::rules::table::Position;
@@ -32,7 +32,7 @@ fn rows_of(claim: &Claim, place: usize) -> Option<Vec<u8>> {
 /// "The start state is the first winner that the start position is below. The start state's rows come
 /// first, then the others by state, inputs ascending."
 fn start_fault(claim: &Claim) -> Option<String> {
-    let start = first_above(&claim.winners, &claim.table.start_position());
+    let start = first_above(&claim.winners, &most_spent(&at_start(claim.table)));
     match (claim.rows, start) {
         (Some(_), Some(start)) if start == claim.start => None,
         (None, None) => None,
@@ -40,18 +40,28 @@ fn start_fault(claim: &Claim) -> Option<String> {
     }
 }
 
+/// The rows of all winners, those of the claim's start first; or why there are none.
+pub fn all(claim: &Claim) -> Result<Vec<u8>, String> {
+    let mut all = Vec::new();
+    for place in 0..claim.winners.len() {
+        let Some(rows) = rows_of(claim, place) else {
+            return Err(format!("winner {place} has no output that leads back to the winners"));
+        };
+        let at = if place == claim.start { 0 } else { all.len() };
+        all.splice(at..at, rows);
+    }
+    Ok(all)
+}
+
 pub fn fault(claim: &Claim) -> Option<String> {
     if let Some(reason) = start_fault(claim) {
         return Some(reason);
     }
-    let mut expected = Vec::new();
-    for place in 0..claim.winners.len() {
-        let Some(rows) = rows_of(claim, place) else {
-            return Some(format!("winner {place} has no output that leads back to the winners"));
-        };
-        let at = if place == claim.start { 0 } else { expected.len() };
-        expected.splice(at..at, rows);
+    match all(claim) {
+        Err(reason) => Some(reason),
+        Ok(all) => {
+            let differ = claim.rows.is_some_and(|rows| rows != all);
+            differ.then(|| "the rows aren't those of the winners".to_string())
+        }
     }
-    let differ = claim.rows.is_some_and(|rows| rows != expected);
-    differ.then(|| "the rows aren't those of the winners".to_string())
 }

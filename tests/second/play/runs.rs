@@ -2,12 +2,21 @@
 
 use crate::rules::table::{Position, Side, Table};
 
-/// In the byte pair of each state, bit e is set if a run ends there that has entered e marked
+/// In the byte pair of each state, bit e is set if a run ends there that has visited e marked
 /// states. K is at most 7, and a round adds at most two marks: nothing is ever cut off.
 pub type Runs = [u16; 8];
 
 fn bits(targets: u8) -> impl Iterator<Item = usize> {
     (0..8).filter(move |state| targets >> state & 1 == 1)
+}
+
+/// "In the papers a run visits its first state too": the runs before any round, one in each start state.
+pub fn at_start(table: &Table) -> Runs {
+    let mut runs = [0; 8];
+    for state in bits(table.starts) {
+        runs[state] = 1 << table.controller.marks[state];
+    }
+    runs
 }
 
 /// "Several edges may share a state and a letter: all of them are followed."
@@ -30,7 +39,7 @@ pub fn by_input(table: &Table, halfway: &Runs, input: usize) -> Runs {
 }
 
 pub fn keep_to(runs: &Runs, patience: i8) -> bool {
-    runs.iter().all(|entries| entries >> (patience + 1) == 0)
+    runs.iter().all(|visits| visits >> (patience + 1) == 0)
 }
 
 /// The runs after a round; empty if one of them passes K, halfway or at the end.
@@ -52,5 +61,5 @@ pub fn spent(position: &Position) -> Runs {
 
 /// The most that a run in each state has spent; -1 where there is none.
 pub fn most_spent(runs: &Runs) -> Position {
-    runs.map(|entries| 15 - entries.leading_zeros() as i8)
+    runs.map(|visits| 15 - visits.leading_zeros() as i8)
 }

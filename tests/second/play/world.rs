@@ -4,7 +4,7 @@
 //! Which input it gives is drawn from the rounds: one after which the position fell in an earlier
 //! round. Whether that wins is seen by the runs alone.
 
-use super::runs::{by_input, by_output, keep_to, most_spent, spent, Runs};
+use super::runs::{at_start, by_input, by_output, keep_to, most_spent, spent, Runs};
 use super::Claim;
 use crate::engines::Rounds;
 use crate::rules::table::{Position, Table};
@@ -30,8 +30,17 @@ impl<'a> World<'a> {
 
     /// Whether it wins from runs that have spent these counts; empty if the play was broken off.
     pub fn wins_from(&mut self, position: &Position) -> Option<bool> {
-        let Some(fell) = self.rounds.fell(position) else { return Some(false) };
-        self.wins(&spent(position), fell)
+        self.wins_from_runs(&spent(position))
+    }
+
+    /// Whether it wins from the start: at once where a first visit is over K.
+    pub fn wins_from_start(&mut self) -> Option<bool> {
+        self.wins_from_runs(&at_start(self.table))
+    }
+
+    fn wins_from_runs(&mut self, runs: &Runs) -> Option<bool> {
+        let Some(fell) = self.rounds.fell(&most_spent(runs)) else { return Some(false) };
+        self.wins(runs, fell)
     }
 
     /// The earliest round in which what an input leads to fell, and the runs there.

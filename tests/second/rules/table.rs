@@ -49,10 +49,11 @@ pub fn build(records: &[Record]) -> Table {
 }
 
 impl Table {
-    /// "The start position gives 0 to each start state and -1 to the others. A start state's own
-    /// mark is not counted there."
-    pub fn start_position(&self) -> Position {
-        std::array::from_fn(|state| if self.starts >> state & 1 == 1 { 0 } else { -1 })
+    /// "The start position gives 1 to a marked start state and 0 to the others": its mark to each start
+    /// state, at most K + 1 as every count (reading 22), and -1 to a state that is none (reading 12).
+    pub fn start_position(&self, patience: i8) -> Position {
+        let count = |state: usize| self.controller.marks[state].min(patience + 1);
+        std::array::from_fn(|state| if self.starts >> state & 1 == 1 { count(state) } else { -1 })
     }
 
     /// How many safe positions the larger side has: (K + 2) to the power of its states.

@@ -3,7 +3,7 @@
 use super::Control;
 use crate::call::{Call, Outcome};
 use crate::laws::{self, Law};
-use crate::rules::codes::UNREALIZABLE;
+use crate::rules::codes::{FULL, UNREALIZABLE};
 use crate::session::Change;
 
 /// So often a law is tried, and so often at least it has to fail.
@@ -45,12 +45,16 @@ fn bend_join(call: &Call, outcome: &mut Outcome) {
     flip_byte(call, outcome, "out", 2);
 }
 
+fn turn_full(_: &Call, outcome: &mut Outcome) {
+    outcome.result = FULL;
+}
+
 fn turn_rounds(call: &Call, outcome: &mut Outcome) {
     flip_byte(call, outcome, "answer", 12);
 }
 
 /// The law, what it is told otherwise, and of which call.
-const TOLD: [(&str, &str, &str, Way); 15] = [
+const TOLD: [(&str, &str, &str, Way); 20] = [
     ("by parts and afresh", "the verdict", "solve", turn_verdict),
     ("by parts and afresh", "a winner", "parts", bend_winner),
     ("by parts and afresh", "a row", "parts", bend_row),
@@ -66,6 +70,11 @@ const TOLD: [(&str, &str, &str, Way); 15] = [
     ("kept", "a row", "parts", bend_row),
     ("kept", "the verdict", "check", turn_verdict),
     ("halves", "the verdict", "check", turn_verdict),
+    ("entered", "the verdict", "solve", turn_verdict),
+    ("entered", "the verdict", "check", turn_verdict),
+    ("other starts", "the code", "solve", turn_full),
+    ("other starts", "the rounds", "solve", turn_rounds),
+    ("other starts", "a winner", "solve", bend_winner),
 ];
 
 impl Control {

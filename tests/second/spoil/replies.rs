@@ -1,7 +1,9 @@
-//! What the proved calls reply is changed: the result, a byte of each buffer, a row.
+//! What the proved calls reply is changed: the result, a byte of each buffer, a row; or it is one of the
+//! call's lies.
 
 use super::{Control, MOST_DRAWN};
-use crate::call::{Call, Operation, Outcome, Use};
+use crate::call::{Call, Lie, Operation, Outcome, Use};
+use crate::make::Dice;
 use crate::rules::codes::REALIZABLE;
 use std::cell::Cell;
 use std::rc::Rc;
@@ -39,6 +41,16 @@ fn row_way(byte: usize) -> Way {
     })
 }
 
+fn lie_way(lie: &'static Lie) -> Way {
+    Box::new(|call, outcome| match (lie.tell)(call, outcome, &mut Dice::new(1)) {
+        Some(wrong) => {
+            *outcome = wrong;
+            true
+        }
+        None => false,
+    })
+}
+
 /// Every way of changing a reply to this operation.
 fn ways(operation: &'static Operation) -> Vec<(String, Way)> {
     let one_more: Way = Box::new(|_, outcome| {
@@ -56,6 +68,7 @@ fn ways(operation: &'static Operation) -> Vec<(String, Way)> {
         ways.push(("the output of a row".to_string(), row_way(1)));
         ways.push(("the next state of a row".to_string(), row_way(3)));
     }
+    ways.extend(operation.lies.iter().map(|lie| (lie.name.to_string(), lie_way(lie))));
     ways
 }
 

@@ -1,15 +1,15 @@
-//! Calls to check rows: what engines wrote and what else does the same, strategies with memory, rows that
-//! are broken, bad tables and short buffers.
+//! Calls to check rows: what engines wrote and what else does the same, strategies with memory, starts that
+//! no rows can follow, rows that are broken, bad tables and short buffers.
 
 use super::call;
 use crate::call::Feature;
 use crate::engines::antichain;
-use crate::follow::longest::most_entries;
+use crate::follow::longest::most_visits;
 use crate::make::{
     any_good, bent, copied, damaged, dense, falling, foreign, letters, strategy, strategy_of,
-    two_faults, Dice, Letters, BREAKS,
+    two_faults, with_marked_start, Dice, Letters, BREAKS,
 };
-use crate::rules::codes::{BOUND, LETTERS, REALIZABLE, ROOM, ROWS};
+use crate::rules::codes::{BOUND, LETTERS, REALIZABLE, ROOM, ROWS, UNREALIZABLE};
 use crate::rules::read::read;
 use crate::rules::rows::{clauses_broken, read_rows};
 use crate::rules::table::Table;
@@ -17,13 +17,14 @@ use crate::session::{Session, EXACT};
 use std::collections::BTreeSet;
 
 pub fn draw(session: &mut Session) {
-    match session.dice.below(12) {
+    match session.dice.below(13) {
         0 | 1 => written(session),
         2..=4 => any_rows(session),
         5 => misshapen(session),
         6 => other_letters(session),
         7 | 8 => bad_tables(session),
         9 => one_byte(session),
+        10 => unsafe_start(session),
         _ => short(session),
     }
     if session.dice.below(60) == 0 {
@@ -95,9 +96,20 @@ fn any_rows(session: &mut Session) {
 fn near_most(session: &mut Session, table: &[u8], rows: &[u8]) {
     let controller = read_rows(rows).expect("the rows are well formed");
     let any = session.dice.below(8) as u32;
-    let most = most_entries(&good(table), &controller).unwrap_or(any);
+    let most = most_visits(&good(table), &controller).unwrap_or(any);
     for patience in [most, most.saturating_sub(1), any] {
         session.put(&call(table, patience.min(7), rows));
+    }
+}
+
+/// A marked start at K 0: a run passes K in its first state, whatever the rows.
+fn unsafe_start(session: &mut Session) {
+    let table = any_table(&mut session.dice);
+    let table = with_marked_start(&mut session.dice, &table);
+    for _ in 0..2 {
+        let rows = strategy(&mut session.dice, letters_of(&table));
+        let call = call(&table, 0, &rows);
+        session.put_knowing(&call, "1", |outcome| outcome.result == UNREALIZABLE);
     }
 }
 

@@ -63,7 +63,7 @@ fn checked(call: &Call) -> Result<(Table, Controller), Answer> {
 }
 
 /// "Say 0 if following the rows keeps every run to at most K entries for every finite input sequence,
-/// and 1 if it doesn't. ... The answer's other fields are 0."
+/// and 1 if it doesn't. ... The answer's other fields are 0." Since R-2 it says "visits" for "entries".
 fn voice(call: &Call, name: &'static str, keeps: bool) -> Voice {
     let code = if keeps { REALIZABLE } else { UNREALIZABLE };
     let mut outcome = Outcome::result_only(call, code);
@@ -79,7 +79,7 @@ fn oracles(call: &Call) -> Vec<Voice> {
         }
     };
     let patience = patience(call);
-    let most = longest::most_entries(&table, &controller);
+    let most = longest::most_visits(&table, &controller);
     let passed = single::overrun(&table, patience as usize, &controller);
     let mut voices = vec![
         voice(call, "longest run", most.is_some_and(|most| most <= patience)),
@@ -88,18 +88,27 @@ fn oracles(call: &Call) -> Vec<Voice> {
     let late = passed.is_some_and(|rounds| rounds >= LATE);
     voices[0].outcome.notes.extend(near_patience(most, patience));
     voices[0].outcome.notes.extend(late.then_some("a run passes K late"));
+    let decides = first_decides(&table, &controller, most, patience);
+    let notes = decides.then(|| solved::decided_by_mark(&table, patience));
+    voices[0].outcome.notes.extend(notes);
     voices
+}
+
+/// Whether the most visits are over K, and would not be if the first one went free.
+fn first_decides(table: &Table, controller: &Controller, most: Option<u32>, patience: u32) -> bool {
+    most.is_some_and(|most| most > patience)
+        && longest::most_entries(table, controller).is_some_and(|most| most <= patience)
 }
 
 /// An overrun is late after so many rounds.
 const LATE: u32 = 6;
 
-/// How near the most entries of any run are to K.
+/// How near the most visits of any run are to K.
 fn near_patience(most: Option<u32>, patience: u32) -> Option<Feature> {
     match most {
-        None => Some("entries without end"),
-        Some(most) if most == patience + 1 => Some("just one entry over K"),
-        Some(most) if most == patience && patience > 0 => Some("exactly K entries"),
+        None => Some("visits without end"),
+        Some(most) if most == patience + 1 => Some("just one visit over K"),
+        Some(most) if most == patience && patience > 0 => Some("exactly K visits"),
         _ => None,
     }
 }
@@ -150,7 +159,7 @@ fn of_refusal(call: &Call, code: u32) -> Vec<Feature> {
     }
 }
 
-static LEAST: [Least; 90] = [
+static LEAST: [Least; 97] = [
     least(REALIZABLE, ANY, 4_000),
     least(REALIZABLE, "256 states", 100),
     least(REALIZABLE, "8 states and 8 letters", 30),
@@ -159,11 +168,13 @@ static LEAST: [Least; 90] = [
     least(REALIZABLE, "a buffer at any address", 2_000),
     least(REALIZABLE, "a buffer before a wall", 4_000),
     least(REALIZABLE, "a byte changed", 20),
+    least(REALIZABLE, "a marked start", 2_000),
+    least(REALIZABLE, "a marked start and an unmarked one", 1_300),
     least(REALIZABLE, "a start other than 0", 3_000),
     least(REALIZABLE, "a state never reached", 1_000),
     least(REALIZABLE, "an engine's rows", 200),
     least(REALIZABLE, "bent in one place", 400),
-    least(REALIZABLE, "exactly K entries", 1_000),
+    least(REALIZABLE, "exactly K visits", 1_000),
     least(REALIZABLE, "holes between the numbers", 2_000),
     least(REALIZABLE, "one state", 900),
     least(REALIZABLE, "over 20 states", 700),
@@ -178,18 +189,23 @@ static LEAST: [Least; 90] = [
     least(UNREALIZABLE, "a buffer at any address", 1_000),
     least(UNREALIZABLE, "a buffer before a wall", 2_000),
     least(UNREALIZABLE, "a byte changed", 20),
+    least(UNREALIZABLE, "a marked start", 2_000),
+    least(UNREALIZABLE, "a marked start and an unmarked one", 1_100),
     least(UNREALIZABLE, "a run passes K late", 400),
     least(UNREALIZABLE, "a start other than 0", 1_500),
     least(UNREALIZABLE, "a state never reached", 600),
+    least(UNREALIZABLE, "an unsafe start", 1_000),
     least(UNREALIZABLE, "bent in one place", 100),
-    least(UNREALIZABLE, "entries without end", 1_000),
     least(UNREALIZABLE, "holes between the numbers", 1_500),
-    least(UNREALIZABLE, "just one entry over K", 900),
+    least(UNREALIZABLE, "just one visit over K", 900),
     least(UNREALIZABLE, "one state", 300),
+    least(UNREALIZABLE, "only the mark of a safe start decides", 400),
+    least(UNREALIZABLE, "only the mark of an unsafe start decides", 400),
     least(UNREALIZABLE, "over 20 states", 400),
     least(UNREALIZABLE, "several edges for a letter", 1_500),
     least(UNREALIZABLE, "several starts", 1_000),
     least(UNREALIZABLE, "the same with other states", 100),
+    least(UNREALIZABLE, "visits without end", 1_000),
     least(BOUND, ANY, 200),
     least(BOUND, "K over 7 and too short an answer", 100),
     least(BOUND, "with bad rows", 100),

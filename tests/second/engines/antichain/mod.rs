@@ -32,7 +32,7 @@ impl Game {
         Game {
             controller: Turn::new(&table.controller, &table.world, patience),
             world: Turn::new(&table.world, &table.controller, patience),
-            start: table.start_position(),
+            start: table.start_position(patience),
             limit,
             largest: 0,
         }

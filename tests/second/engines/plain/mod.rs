@@ -18,6 +18,7 @@ struct Game {
     world: Ground,
     outputs: Steps,
     inputs: Steps,
+    /// The number of the start position: LOST where a mark of its own makes it unsafe.
     start: usize,
 }
 
@@ -25,7 +26,7 @@ impl Game {
     fn new(table: &Table, patience: i8) -> Game {
         let controller = Ground::new(table.controller.states, patience);
         let world = Ground::new(table.world.states, patience);
-        let start = controller.number(&table.start_position());
+        let start = controller.number(&table.start_position(patience));
         Game {
             outputs: all_steps(&table.controller, &controller, &table.world, &world),
             inputs: all_steps(&table.world, &world, &table.controller, &controller),

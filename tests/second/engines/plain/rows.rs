@@ -14,6 +14,7 @@ impl Game {
         list
     }
 
+    /// The first winner that a position is below. A position that isn't safe is below none.
     fn first_above(&self, list: &[usize], number: usize) -> Option<usize> {
         if number == LOST {
             return None;
