@@ -88,7 +88,7 @@ enum {
 /* Solves a table and gives the code. */
 uint32_t desk_solve(
     const uint8_t *table, size_t table_length, /* the table: records of four bytes */
-    uint32_t k,                                /* the patience: 0 to 7 visits of marked states */
+    uint32_t k,                                /* the patience: 0 to 7 visits to marked states */
     uint32_t room,                             /* N, the most positions a set may need: 1 to 256 */
     uint8_t *winners, size_t winners_length,   /* gets the winners, 8 bytes each, ascending */
     uint8_t *controller, size_t controller_length, /* gets the rows: state, output, input, next */
@@ -114,7 +114,7 @@ uint32_t desk_parts(
     uint8_t *answer, size_t answer_length);        /* gets the six numbers */
 
 /* Checks controller rows, whoever made them, against a table. Gives the code: 0 if following the
-   rows from the state of the first one keeps every run of the table to k visits of marked states,
+   rows from the state of the first one keeps every run of the table to k visits to marked states,
    its first state included, whatever the inputs, and 1 if it doesn't. Rows are well formed (15) if
 
    - the length is a positive multiple of 4 up to 8,192;

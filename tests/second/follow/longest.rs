@@ -104,7 +104,7 @@ fn most(graph: &Graph) -> Option<u32> {
     most.into_iter().max()
 }
 
-/// The most visits of marked states that a run makes; empty if there is no most.
+/// The most visits to marked states that a run makes; empty if there is no most.
 pub fn most_visits(table: &Table, controller: &Controller) -> Option<u32> {
     most(&graph(table, controller, &table.controller.marks))
 }

@@ -3,7 +3,7 @@
 use crate::rules::rows::Controller;
 use crate::rules::table::Table;
 
-/// What a run has come to: the controller's state, the table's, and the visits of marked states.
+/// What a run has come to: the controller's state, the table's, and the visits to marked states.
 #[derive(Clone, Copy)]
 struct Run {
     state: u8,

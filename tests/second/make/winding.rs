@@ -22,7 +22,7 @@ const CLIMB: usize = 0;
 const STAY: [usize; 6] = [1, 3, 4, 5, 6, 7];
 const AGAIN: usize = 2;
 
-/// Every run keeps to so many visits of marked states.
+/// Every run keeps to so many visits to marked states.
 pub const MOST_VISITS: u32 = 7;
 
 pub fn winding_table() -> Vec<u8> {
