@@ -109,6 +109,16 @@ module _ (spreads : List ℕ) (letter word : ℕ) where
       (shared-counts one (c * ones) q ∙ ap (bitAnd (count (countsIn one) q)) (all-counts c q under l ∙ count-is))
       ∙ sym (largest-next (brings spreads letter word q) p _ refl)
 
+  -- a source where no run is brings nothing
+  pub arrived-skip : (p most c : ℕ) → Arrived spreads letter word p most → c ≡ count (countsIn word) p → c ≡ 0
+      → Arrived spreads letter word (p + 1) most
+  arrived-skip p most c before count-is none q l =
+      let f = brings spreads letter word q in
+      let spread = count (countsIn (getD spreads (letter * 8 + p) 0)) q in
+      let nothing : f p ≡ 0 = ap (bitAnd spread) (sym count-is ∙ none) ∙ and-comm spread 0 ∙ and-zero-l spread in
+      let same : max (largest p f) 0 ≡ largest p f = omega arith in
+      before q l ∙ sym (largest-next f p 0 nothing ∙ same)
+
 -- the largest of what rises with a number is what the largest has
 plus-largest : (K mark n : ℕ) (f : ℕ → ℕ) → plus K mark (largest n f) ≡ largest n (λ i. plus K mark (f i))
 plus-largest K mark zero f = plus-none K mark

@@ -151,6 +151,9 @@ pub fn back(m: &[i8; 8], half: Half, bars: &[u64; 8], most: u64) -> u64
 fn spread(mask: u8) -> u64
     ensures { λ r. ⌜ countsIn r ≡ spreadCounts mask ⌝ }
 {
+    if mask == 0 {
+        return 0;
+    }
     let mut word = 0u64;
     let mut q = 0;
     while q < 8 {
@@ -214,8 +217,12 @@ pub fn forward(word: u64, spreads: &[u64; 64], letter: usize, marks: u64, k: usi
     let mut most = 0u64;
     let mut p = 0;
     while p < 8 {
-        let all = (word >> (56 - 8 * p)) % 128 * ONES;
-        most = greater(most, spreads[letter * 8 + p] & all);
+        let count = (word >> (56 - 8 * p)) % 128;
+        // a source where no run is brings nothing
+        if 0 < count {
+            let all = count * ONES;
+            most = greater(most, spreads[letter * 8 + p] & all);
+        }
         p += 1;
     }
     charged(most, marks, k)

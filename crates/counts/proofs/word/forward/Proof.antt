@@ -1,11 +1,12 @@
 -- `forward`: the loop's invariant is that the counts of `most` are the largest that the sources before p bring, before any mark
--- (Spreads.antt). A turn takes the greater of them and of the source's count at its targets. Charged once, they are the step. The measure
--- is the number of sources left. Assumes nothing.
+-- (Spreads.antt). A turn takes the greater of them and of the source's count at its targets; a source where no run is brings nothing.
+-- Charged once, they are the step. The measure is the number of sources left. Assumes nothing.
 use mathlib.Core.Path.{_≡_}
+use mathlib.Core.Logic.{⊎-elim}
 use Prim.Native.Nat.{_-_, _≤_}
 use native.Mathlib.Omega.{arith}
 use borrow.Author.Needs.{needs}
-use Rattle.counts.proofs.Spreads.{byte-count, Arrived, arrived-none, arrived-next, stepped-forward, no-letter}
+use Rattle.counts.proofs.Spreads.{byte-count, Arrived, arrived-none, arrived-next, arrived-skip, stepped-forward, no-letter}
 use Rattle.counts.proofs.word.forward.Statement.{statement}
 use Rattle.counts.proofs.word.forward.Tie as tie
 
@@ -26,17 +27,17 @@ loop-holds c =
     let given = c .before .args in
     (omega arith, arrived-none (given .spreads .now) (given .letter) (given .word))
 
+mul-count : tie.Need-mul-count Inv-loop μ-loop
+mul-count c = search needs
+
+sub-count : tie.Need-sub-count Inv-loop μ-loop
+sub-count c = search needs
+
+shr-count : tie.Need-shr-count Inv-loop μ-loop
+shr-count c = search needs
+
 mul-all : tie.Need-mul-all Inv-loop μ-loop
 mul-all c = search needs
-
-sub-all : tie.Need-sub-all Inv-loop μ-loop
-sub-all c = search needs
-
-shr-all : tie.Need-shr-all Inv-loop μ-loop
-shr-all c = search needs
-
-mul-all-2 : tie.Need-mul-all-2 Inv-loop μ-loop
-mul-all-2 c = search needs
 
 mul-greater : tie.Need-mul-greater Inv-loop μ-loop
 mul-greater c = search needs
@@ -61,12 +62,18 @@ loop-less c = search needs
 
 loop-again : tie.Need-loop-again Inv-loop μ-loop
 loop-again c =
-    let at = c .before .before .before in
+    let at = c .before .before in
     let given = at .before .before .args in
-    let p = at .loop .p in (
+    let p = at .loop .p in
+    let byte = byte-count (given .word) p (omega arith) in (
       omega arith,
-      arrived-next (given .spreads .now) (given .letter) (given .word) p (at .loop .most) _ (c .greater .result) (at .loop .inv .1)
-          (byte-count (given .word) p (omega arith)) (c .greater .ensures),
+      ⊎-elim
+          (λ w. rw (w .3) (arrived-next (given .spreads .now) (given .letter) (given .word) p (at .loop .most) _
+          (w .2 .result) (at .loop .inv .1)
+          byte (w .2 .ensures)))
+          (λ w. rw (w .1) (arrived-skip (given .spreads .now) (given .letter) (given .word) p (at .loop .most) _ (at .loop .inv .1) byte
+          (omega (arith, w .0 .left))))
+          (c .if2 .came),
     )
 
 charged-requires : tie.Need-charged-requires Inv-loop μ-loop
@@ -89,10 +96,10 @@ forward-spec =
     μ-loop
     returns
     loop-holds
+    mul-count
+    sub-count
+    shr-count
     mul-all
-    sub-all
-    shr-all
-    mul-all-2
     mul-greater
     add-greater
     mul-greater-2

@@ -1,12 +1,13 @@
 -- `spread`: the loop's invariant is that the counts at the targets before q are packed in `word`. A turn moves them up by a byte and adds
--- the count of q, by the mask's bit. The measure is the number of targets left. Assumes nothing.
-use mathlib.Core.Path.{sym, _∙_}
+-- the count of q, by the mask's bit. The measure is the number of targets left. A mask without targets has none anywhere. Assumes nothing.
+use mathlib.Core.Path.{refl, sym, _∙_}
 use mathlib.Core.Logic.{⊎-elim}
 use Prim.Native.Nat.{_*_, _-_}
 use native.Mathlib.Nat.{add-zero}
 use native.Mathlib.Omega.{arith}
 use borrow.Author.Needs.{needs}
-use Rattle.counts.specs.Words.{spreadCounts}
+use Rattle.meaning.specs.Table.{bit}
+use Rattle.counts.specs.Words.{countsIn, countsBefore, spreadCounts}
 use Rattle.counts.proofs.Packing.{Packed, packed-none, packed-room, packed-next, packed-whole}
 use Rattle.counts.proofs.Spreads.{spread-length, spread-at}
 use Rattle.counts.proofs.word.spread.Statement.{statement}
@@ -17,6 +18,10 @@ Inv-loop mask word₀ q₀ word q = Packed (spreadCounts mask) q word
 
 abbrev μ-loop : tie.MeasureT-loop
 μ-loop mask word₀ q₀ word q = 8 - q
+
+returns : tie.Need-returns Inv-loop μ-loop
+unfolding countsIn countsBefore spreadCounts bit
+returns c = rw (c .if1 .taken) refl
 
 loop-holds : tie.Need-loop-holds Inv-loop μ-loop
 loop-holds c = packed-none _
@@ -45,7 +50,7 @@ loop-again : tie.Need-loop-again Inv-loop μ-loop
 loop-again c =
     let in-loop = c .before .before in
     let at = in-loop .before in
-    let mask = at .before .args .mask in
+    let mask = at .before .before .args .mask in
     let q = at .loop .q in
     let l = in-loop .loop-test .taken in
     let next = packed-next (spreadCounts mask) q (at .loop .word) (at .loop .inv) in
@@ -53,12 +58,12 @@ loop-again c =
     ⊎-elim (λ w. rw (w .1) (next 127 long l (omega arith) (spread-at mask q l ∙ rw (sym (c .before .has .ensures) ∙ w .0 .taken))))
     (λ w. rw (w .1, ← add-zero (at .loop .word * 256))
     (next 0 long l (omega arith) (spread-at mask q l ∙ rw (sym (c .before .has .ensures) ∙ w .0 .left))))
-    (c .if1 .came)
+    (c .if2 .came)
 
-returns : tie.Need-returns Inv-loop μ-loop
-returns c =
+returns-2 : tie.Need-returns-2 Inv-loop μ-loop
+returns-2 c =
     let at = c .before in
-    packed-whole _ (at .loop .q) (at .loop .word) (at .loop .inv) (spread-length (at .before .args .mask)) (c .loop-test .left)
+    packed-whole _ (at .loop .q) (at .loop .word) (at .loop .inv) (spread-length (at .before .before .args .mask)) (c .loop-test .left)
 
 pub spread-spec : {M : Type 1} → statement M
 spread-spec =
@@ -66,6 +71,7 @@ spread-spec =
     (tie.spec
     Inv-loop
     μ-loop
+    returns
     loop-holds
     mul-word
     has-requires
@@ -73,4 +79,4 @@ spread-spec =
     add-q
     loop-less
     loop-again
-    returns)
+    returns-2)
