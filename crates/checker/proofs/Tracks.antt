@@ -14,13 +14,13 @@ use lib.Dec.{leb}
 use lib.ListN.{length, set, replicate, length-set, length-replicate, List·getD-eq-default}
 use lib.Seq.{getD-set-same, getD-set-other}
 use borrow.Author.Tests.{leb-false}
-use Rattle.meaning.specs.Lists.{every, place}
+use Rattle.meaning.specs.Lists.{every, place, smallest}
 use Rattle.meaning.specs.Table.{Table, Good, StartsDeclared}
 use Rattle.meaning.specs.Counting.{Position, count, safe, startPosition}
 use Rattle.meaning.specs.Written.{positionBytes, Row}
 use Rattle.meaning.specs.Play.{Realizes, rowsIn, rowOutput, rowNext}
 use Rattle.meaning.specs.Controller.{firstState, hasRows}
-use Rattle.meaning.proofs.Tests.{clash}
+use Rattle.meaning.proofs.Tests.{clash, smallest-top, smallest-at}
 use Rattle.meaning.proofs.Lists.{place-holds, place-before, getD-alike}
 use Rattle.meaning.proofs.Steps.{below-of, safe-at, safe-of}
 use Rattle.meaning.proofs.Winning.{round-from}
@@ -32,7 +32,7 @@ use Rattle.counts.specs.Words.{countsIn}
 use Rattle.counts.proofs.Wide.{wide-count}
 use Rattle.counts.proofs.Packing.{low-counts}
 use Rattle.checker.specs.Followable.{Followable}
-use Rattle.checker.specs.Raised.{countsAt, flagAt}
+use Rattle.checker.specs.Raised.{countsAt, flagAt, NoneBefore}
 use Rattle.checker.specs.LedByRound.{ForAll, ledTo, AllLed, Overruns}
 use Rattle.checker.proofs.Counts.{counts-here, counts-elsewhere, counts-nowhere}
 use Rattle.checker.proofs.Room.{each-refuted}
@@ -44,6 +44,12 @@ pub record Tracks (K : ℕ) (t : Table) (rows : List Row) (most : List ℕ) (ris
   pub named : (s : ℕ) → flagAt risen s ≡ true → hasRows rows s ≡ true
   pub closed : (s i : ℕ) → hasRows rows s ≡ true → i < t .inputs → (flagAt risen s ≡ true)
       ⊎ ((q : ℕ) → count (ledTo K t rows s (countsAt most s) i) q ≤ count (countsAt most (rowNext rows s i)) q)
+
+-- what holds before each turn: counts and flags for all states, which track the runs, and no flag before the state to look from
+pub record Turning (K : ℕ) (t : Table) (rows : List Row) (from : ℕ) (most : List ℕ) (risen : List Bool) : Type 0 where
+  pub arrays : ForAll most risen
+  pub tracks : Tracks K t rows most risen
+  pub before : NoneBefore from risen
 
 -- rows that can be followed fit the table
 pub fitting : {K : ℕ} {t : Table} {bytes : List ℕ} → Followable K t bytes → Fitting t (rowsIn bytes)
@@ -183,6 +189,27 @@ module _ (K : ℕ) (t : Table) (rows : List Row) where
               ⊎-elim (λ f. inl (same .1 ∙ getD-set-other risen s r false false d ∙ f))
               (λ under. inr (rw (same .0) (λ q. le-trans (under q) (led .over (rowNext rows r i) q))))
               (tracks .closed r i h l)
+
+      -- the first flagged state led on: the next flag is not before the states it leads on to, nor before the one after it
+      pub none-before : length risen′ ≡ 256 → s < 256 → s ≡ place (λ b. b) risen
+          → NoneBefore (smallest (s + 1) (t .inputs) (rowNext rows s)) risen′
+      none-before long within is-first =
+          record {
+            within = omega (arith, smallest-top (s + 1) (t .inputs) (rowNext rows s));
+            none = λ r l. not-flagged r (flagAt risen′ r) refl l;
+          }
+        where
+          earlier : (r : ℕ) → r ≤ s → flagAt (set risen s false) r ≡ true → Dec (r ≡ s) → ⊥
+          earlier r l f (yes e) = clash _ (ap (flagAt (set risen s false)) (sym e) ∙ f) down
+          earlier r l f (no d) =
+              clash (flagAt risen r) (sym (getD-set-other risen s r false false d) ∙ f) (place-before (λ b. b) risen false r (omega arith))
+
+          not-flagged : (r : ℕ) (b : Bool) → flagAt risen′ r ≡ b → r < smallest (s + 1) (t .inputs) (rowNext rows s) → b ≡ false
+          not-flagged r false f l = refl
+          not-flagged r true f l =
+              let top = smallest-top (s + 1) (t .inputs) (rowNext rows s) in
+              ⊎-elim (λ g. absurd (earlier r (omega arith) g (ℕ-discrete r s)))
+              (λ w. absurd (omega (arith, w .2, smallest-at (s + 1) (t .inputs) (rowNext rows s) (w .0) (w .1)))) (led .named r f)
 
     -- an overrun shows that following the rows does not keep every run to K
     pub tracks-overrun : (s : ℕ) → Overruns K t rows s (countsAt most s) → Realizes K t (following rows) → ⊥

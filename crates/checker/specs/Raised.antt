@@ -4,7 +4,7 @@ use mathlib.Core.Logic.{_⊎_}
 use mathlib.Core.Bool.{Bool, true, false}
 use mathlib.Core.List.{List, [], _∷_}
 use Prim.Native.Nat.{ℕ, _+_, _-_, _≤_, _<_, max}
-use lib.ListN.{getD}
+use lib.ListN.{length, getD}
 use Rattle.meaning.specs.Counting.{Position, count, safe}
 use Rattle.counts.specs.Words.{countsIn}
 
@@ -14,6 +14,11 @@ countsAt most s = countsIn (getD most s 0)
 
 abbrev pub flagAt : List Bool → ℕ → Bool
 flagAt risen s = getD risen s false
+
+-- no state before this one is flagged
+pub record NoneBefore (from : ℕ) (risen : List Bool) : Type 0 where
+  pub within : from ≤ length risen
+  pub none : (r : ℕ) → r < from → flagAt risen r ≡ false
 
 -- how far a list's counts may still rise, up to K + 2; and those of all states
 unfoldable pub room : ℕ → List ℕ → ℕ

@@ -4,7 +4,7 @@ use mathlib.Core.Path.{_≡_, sym, _∙_}
 use mathlib.Core.Bool.{false}
 use Prim.Native.Nat.{ℕ, _≤_, _<_, _-_}
 use native.Mathlib.Omega.{arith}
-use borrow.Author.Count.{below-none, below-more}
+use borrow.Author.Count.{below-more}
 use borrow.Author.Needs.{needs}
 use lib.ListN.{length, getD}
 use Rattle.meaning.proofs.Searches.{place-is, place-none}
@@ -12,13 +12,13 @@ use Rattle.checker.proofs.keep.first_risen.Statement.{statement}
 use Rattle.checker.proofs.keep.first_risen.Tie as tie
 
 abbrev Inv-loop : tie.InvT-loop
-Inv-loop risen s₀ s = (s ≤ length risen) × ((j : ℕ) → j < s → getD risen j false ≡ false)
+Inv-loop risen from s₀ s = (s ≤ length risen) × ((j : ℕ) → j < s → getD risen j false ≡ false)
 
 abbrev μ-loop : tie.MeasureT-loop
-μ-loop risen s₀ s = length risen - s
+μ-loop risen from s₀ s = length risen - s
 
 loop-holds : tie.Need-loop-holds Inv-loop μ-loop
-loop-holds c = (search needs, below-none _)
+loop-holds c = (c .pre .within, c .pre .none)
 
 shared-slice-read-if1 : tie.Need-shared-slice-read-if1 Inv-loop μ-loop
 shared-slice-read-if1 c = search needs
