@@ -150,6 +150,14 @@ module _ (K : ℕ) (t : Table) (rows : List Row) where
       down : flagAt (set risen s false) s ≡ false
       down = getD-set-same risen s false false low
 
+      -- a flag that is still up then is another's, and was up before
+      still-up : (r : ℕ) → flagAt (set risen s false) r ≡ true → (r ≡ s → ⊥) × (flagAt risen r ≡ true)
+      still-up r g = go (ℕ-discrete r s)
+        where
+          go : Dec (r ≡ s) → (r ≡ s → ⊥) × (flagAt risen r ≡ true)
+          go (yes e) = absurd (clash _ (ap (flagAt (set risen s false)) (sym e) ∙ g) down)
+          go (no d) = (d, sym (getD-set-other risen s r false false d) ∙ g)
+
       led-attained : (r q : ℕ) → 0 < count (countsAt most′ r) q → (i : ℕ) → rowNext rows s i ≡ r
           → count (countsAt most′ r) q ≡ count (ledTo K t rows s (countsAt most s) i) q
           → Attained t rows r q (count (countsAt most′ r) q)
@@ -168,15 +176,11 @@ module _ (K : ℕ) (t : Table) (rows : List Row) where
             attained = λ r q c.
                 ⊎-elim (λ same. attained-as refl (sym same) (tracks .attained r q (omega (arith, same))))
                 (λ w. led-attained r q c (w .0) (w .2) (w .3)) (led .came r q);
-            named = λ r f. ⊎-elim (λ g. tracks .named r (kept r g (ℕ-discrete r s)))
+            named = λ r f. ⊎-elim (λ g. tracks .named r (still-up r g .1))
                 (λ w. rw (← w .2) (next-named (w .0) (w .1))) (led .named r f);
             closed = λ r i h l. ⊎-elim (λ f. inl f) (λ same. stays r i h l same (ℕ-discrete r s)) (led .flagged r);
           }
         where
-          kept : (r : ℕ) → flagAt (set risen s false) r ≡ true → Dec (r ≡ s) → flagAt risen r ≡ true
-          kept r g (yes e) = absurd (clash _ (ap (flagAt (set risen s false)) (sym e) ∙ g) down)
-          kept r g (no d) = sym (getD-set-other risen s r false false d) ∙ g
-
           next-named : (i : ℕ) → i < t .inputs → hasRows rows (rowNext rows s i) ≡ true
           next-named i l = next-has rows (fits .formed) s (tracks .named s flag) i (omega (arith, fits .inputs))
 
@@ -199,16 +203,17 @@ module _ (K : ℕ) (t : Table) (rows : List Row) where
             none = λ r l. not-flagged r (flagAt risen′ r) refl l;
           }
         where
-          earlier : (r : ℕ) → r ≤ s → flagAt (set risen s false) r ≡ true → Dec (r ≡ s) → ⊥
-          earlier r l f (yes e) = clash _ (ap (flagAt (set risen s false)) (sym e) ∙ f) down
-          earlier r l f (no d) =
-              clash (flagAt risen r) (sym (getD-set-other risen s r false false d) ∙ f) (place-before (λ b. b) risen false r (omega arith))
+          earlier : (r : ℕ) → r ≤ s → flagAt (set risen s false) r ≡ true → ⊥
+          earlier r l f =
+              let up = still-up r f in
+              let other = up .0 in
+              clash (flagAt risen r) (up .1) (place-before (λ b. b) risen false r (omega arith))
 
           not-flagged : (r : ℕ) (b : Bool) → flagAt risen′ r ≡ b → r < smallest (s + 1) (t .inputs) (rowNext rows s) → b ≡ false
           not-flagged r false f l = refl
           not-flagged r true f l =
               let top = smallest-top (s + 1) (t .inputs) (rowNext rows s) in
-              ⊎-elim (λ g. absurd (earlier r (omega arith) g (ℕ-discrete r s)))
+              ⊎-elim (λ g. absurd (earlier r (omega arith) g))
               (λ w. absurd (omega (arith, w .2, smallest-at (s + 1) (t .inputs) (rowNext rows s) (w .0) (w .1)))) (led .named r f)
 
     -- an overrun shows that following the rows does not keep every run to K

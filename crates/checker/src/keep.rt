@@ -31,6 +31,7 @@ pub fn keeps(table: Table, k: usize, rows: &[u8]) -> bool
     let in_spreads = word::spreads(input_targets);
     let in_marks = word::marks(controller_marks);
     let begins = word::pack(&position::start(table.starts, controller_marks, table.controllers, k));
+    // a run visits its first state too
     if !word::safe(begins, k) {
         return false;
     }
@@ -110,8 +111,8 @@ fn first_risen(risen: &[bool], from: usize) -> usize
     s
 }
 
-// The lowest of the states that state s leads on to and of the one after s. Once s has been led on, and was
-// the first that was flagged, no state before it is.
+// The lowest of the states that state s leads on to and of the one after s: no state below is flagged when
+// s, the first that was, has been led on.
 fn lowest(rows: &[u8], places: &[u16; 256], inputs: usize, s: usize) -> usize
     requires { ⌜ Ready (now rows) (now places) s × (inputs ≡ inputsIn (rowsIn (now rows))) × (s < 256) ⌝ }
     ensures { λ r. ⌜ r ≡ smallest (s + 1) inputs (rowNext (rowsIn (now (rows .entry))) s) ⌝ }

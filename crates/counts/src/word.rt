@@ -151,6 +151,7 @@ pub fn back(m: &[i8; 8], half: Half, bars: &[u64; 8], most: u64) -> u64
 fn spread(mask: u8) -> u64
     ensures { λ r. ⌜ countsIn r ≡ spreadCounts mask ⌝ }
 {
+    // most bytes of a small table have no target
     if mask == 0 {
         return 0;
     }

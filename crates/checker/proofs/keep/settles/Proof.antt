@@ -12,6 +12,7 @@ use denote.Ref.{now}
 use lib.ListN.{length, set, length-set}
 use Rattle.meaning.specs.Written.{Row}
 use Rattle.meaning.specs.Play.{rowsIn}
+use Rattle.meaning.specs.Controller.{inputsIn}
 use Rattle.meaning.proofs.Formed.{first-has}
 use Rattle.rows.specs.Placed.{Ready}
 use Rattle.table.specs.Packed.{tableIn}
@@ -35,10 +36,10 @@ abbrev μ-loop : tie.MeasureT-loop
 abbrev begin : tie.At-loop Inv-loop μ-loop → tie.Start Inv-loop μ-loop
 begin c = c .before .before .before .before
 
--- the state that a turn leads on
-module _ (c : tie.After-by-round Inv-loop μ-loop) where
+-- the state that a turn leads on, once there is one
+module _ (c : tie.Else1 Inv-loop μ-loop) where
   abbrev asked : tie.After-first-risen Inv-loop μ-loop
-  asked = c .before .before .before .before
+  asked = c .before
 
   abbrev at : tie.At-loop Inv-loop μ-loop
   at = asked .before .before
@@ -50,7 +51,7 @@ module _ (c : tie.After-by-round Inv-loop μ-loop) where
   state = asked .first-risen .result
 
   low : state < 256
-  low = c .before .before .before .if1 .left
+  low = c .if1 .left
 
   flag : flagAt (at .loop .risen) state ≡ true
   flag = flag-up (at .loop .risen) state (asked .first-risen .ensures) (at .loop .inv .arrays .flags) low
@@ -66,21 +67,31 @@ module _ (c : tie.After-by-round Inv-loop μ-loop) where
         has = at .loop .inv .tracks .named state flag;
       }
 
+  as-many : start .args .table .inputs ≡ inputsIn (rowsIn (now (start .args .rows)))
+  as-many = sym (start .pre .followable .inputs ∙ inputs-read (start .args .table))
+
+-- and when it has been led on
+module _ (c : tie.After-by-round Inv-loop μ-loop) where
+  abbrev turn : tie.Else1 Inv-loop μ-loop
+  turn = c .before .before .before
+
   arrays : ForAll (c .by-round .last .1 .1 .1 .1 .1 .1 .1 .1 .1 .0) (c .by-round .last .1 .1 .1 .1 .1 .1 .1 .1 .1 .1 .0)
   arrays =
       record {
-        counts = c .by-round .kept .1 .1 .1 .1 .1 .1 .1 .1 .1 .0 ∙ at .loop .inv .arrays .counts;
-        flags = c .by-round .kept .1 .1 .1 .1 .1 .1 .1 .1 .1 .1 .0 ∙ length-set (at .loop .risen) state false
-            ∙ at .loop .inv .arrays .flags;
+        counts = c .by-round .kept .1 .1 .1 .1 .1 .1 .1 .1 .1 .0 ∙ at turn .loop .inv .arrays .counts;
+        flags = c .by-round .kept .1 .1 .1 .1 .1 .1 .1 .1 .1 .1 .0 ∙ length-set (at turn .loop .risen) (state turn) false
+            ∙ at turn .loop .inv .arrays .flags;
       }
 
   -- what that tells of the table
-  led : (c .by-round .result ≡ true → AllLed (start .args .k) (tableIn (start .args .table)) (rowsIn (now (start .args .rows))) state
-      (at .loop .most) (set (at .loop .risen) state false) (c .by-round .last .1 .1 .1 .1 .1 .1 .1 .1 .1 .0)
+  led : (c .by-round .result ≡ true
+      → AllLed (start turn .args .k) (tableIn (start turn .args .table)) (rowsIn (now (start turn .args .rows))) (state turn)
+      (at turn .loop .most) (set (at turn .loop .risen) (state turn) false) (c .by-round .last .1 .1 .1 .1 .1 .1 .1 .1 .1 .0)
       (c .by-round .last .1 .1 .1 .1 .1 .1 .1 .1 .1 .1 .0))
-      × (c .by-round .result ≡ false → Overruns (start .args .k) (tableIn (start .args .table)) (rowsIn (now (start .args .rows))) state
-      (countsAt (at .loop .most) state))
-  led = c .by-round .ensures (tableIn (start .args .table)) (start .pre .followable) (start .pre .steps)
+      × (c .by-round .result ≡ false
+      → Overruns (start turn .args .k) (tableIn (start turn .args .table)) (rowsIn (now (start turn .args .rows))) (state turn)
+      (countsAt (at turn .loop .most) (state turn)))
+  led = c .by-round .ensures (tableIn (start turn .args .table)) (start turn .pre .followable) (start turn .pre .steps)
 
 at-requires : tie.Need-at-requires Inv-loop μ-loop
 at-requires c κs = search needs
@@ -145,69 +156,59 @@ slice-aggregate-by-round-2 c = search needs
 
 by-round-requires : tie.Need-by-round-requires Inv-loop μ-loop
 by-round-requires c κs =
-    let asked = c .before .before .before in
-    let at = asked .before .before in
-    let start = begin at in
-    let s = asked .first-risen .result in
-    let low = c .before .before .if1 .left in
-    let flag = flag-up (at .loop .risen) s (asked .first-risen .ensures) (at .loop .inv .arrays .flags) low in (
+    let turn = c .before .before in
+    let before = at turn .loop .inv .arrays in (
+      (start turn .pre .followable .bounded .patience, ready turn, as-many turn),
       (
-        start .pre .followable .bounded .patience,
-        record {
-          formed = start .pre .followable .formed;
-          placed = start .pre .placed;
-          has = at .loop .inv .tracks .named s flag;
-        },
-        sym (start .pre .followable .inputs ∙ inputs-read (start .args .table)),
-      ),
-      (
-        record { counts = at .loop .inv .arrays .counts; flags = length-set (at .loop .risen) s false ∙ at .loop .inv .arrays .flags },
-        low,
+        record { counts = before .counts; flags = length-set (at turn .loop .risen) (state turn) false ∙ before .flags },
+        low turn,
       ),
     )
 
 returns-2 : tie.Need-returns-2 Inv-loop μ-loop
 returns-2 c =
     let called = c .before .before .before in
-    let begin = start called in (
+    let begin = start (turn called) in (
       λ e. absurd (true≢false (sym e)),
       λ realizes. absurd (tracks-overrun (begin .args .k) (tableIn (begin .args .table)) (rowsIn (now (begin .args .rows)))
-          (at called .loop .most) (at called .loop .risen) (at called .loop .inv .tracks) (state called)
+          (at (turn called) .loop .most) (at (turn called) .loop .risen) (at (turn called) .loop .inv .tracks) (state (turn called))
           (led called .1 (not-true _ (c .if2 .taken))) realizes),
     )
 
 lowest-requires : tie.Need-lowest-requires Inv-loop μ-loop
 lowest-requires c κs =
     let called = c .before .before .before in
-    (ready called, sym (start called .pre .followable .inputs ∙ inputs-read (start called .args .table)), low called)
+    (ready (turn called), as-many (turn called), low (turn called))
 
 loop-less : tie.Need-loop-less Inv-loop μ-loop
 loop-less c =
     let kept = c .before in
     let called = kept .before .before .before in
-    led-less (start called .args .k) (at called .loop .most) _ (at called .loop .risen) _ (state called) (inside called) (flag called)
+    let on = turn called in
+    led-less (start on .args .k) (at on .loop .most) _ (at on .loop .risen) _ (state on) (inside on) (flag on)
     (arrays called .flags) (led called .0 (not-false _ (kept .if2 .left)) .rises)
 
 loop-again : tie.Need-loop-again Inv-loop μ-loop
 loop-again c =
     let kept = c .before in
     let called = kept .before .before .before in
-    let begin = start called in
+    let on = turn called in
+    let begin = start on in
     let k = begin .args .k in
     let t = tableIn (begin .args .table) in
     let rows = rowsIn (now (begin .args .rows)) in
     let all = led called .0 (not-false _ (kept .if2 .left)) in
-    let tracks = at called .loop .inv .tracks in
-    let most = at called .loop .most in
-    let risen = at called .loop .risen in
+    let tracks = at on .loop .inv .tracks in
+    let most = at on .loop .most in
+    let risen = at on .loop .risen in
     let fits = fitting (begin .pre .followable) in
     record {
       arrays = arrays called;
-      tracks = tracks-led k t rows most risen tracks fits (state called) (inside called) (flag called) _ _ all;
+      tracks = tracks-led k t rows most risen tracks fits (state on) (inside on) (flag on) _ _ all;
       before = rw (c .lowest .ensures, ← inputs-read (begin .args .table))
-          (none-before k t rows most risen tracks fits (state called) (inside called) (flag called) _ _ all
-          (arrays called .flags) (low called)
-          (asked called .first-risen .ensures));
+          (none-before k t rows most risen tracks fits (state on) (inside on) (flag on) _ _ all
+          (arrays called .flags) (low on)
+          (asked on .first-risen .ensures));
     }
 
 pub settles-spec : {M : Type 1} → statement M
