@@ -1,9 +1,11 @@
 // Runs tables of each refusal through the checks and prints code and place; then document 01's calls,
 // three hard tables, and joins and parts, and prints answers and bytes; then checks controllers from
-// elsewhere; and last tables with marked start states. What it prints is held to the stored output.
+// elsewhere; then tables with marked start states; and last compares positions. What it prints is held to
+// the stored output.
 mod calls;
 mod joins;
 mod makers;
+mod positions;
 mod print;
 mod starts;
 mod tables;
@@ -109,4 +111,7 @@ fn main() {
     starts::again();
     starts::parts();
     starts::refused();
+    positions::ordered();
+    positions::unordered();
+    positions::lamp();
 }

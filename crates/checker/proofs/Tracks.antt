@@ -14,7 +14,7 @@ use lib.Dec.{leb}
 use lib.ListN.{length, set, replicate, length-set, length-replicate, List·getD-eq-default}
 use lib.Seq.{getD-set-same, getD-set-other}
 use borrow.Author.Tests.{leb-false}
-use Rattle.meaning.specs.Lists.{every, place, smallest}
+use Rattle.meaning.specs.Lists.{place, smallest}
 use Rattle.meaning.specs.Table.{Table, Good, StartsDeclared}
 use Rattle.meaning.specs.Counting.{Position, count, safe, startPosition}
 use Rattle.meaning.specs.Written.{positionBytes, Row}
@@ -24,13 +24,12 @@ use Rattle.meaning.proofs.Tests.{clash, smallest-top, smallest-at}
 use Rattle.meaning.proofs.Lists.{place-holds, place-before, getD-alike}
 use Rattle.meaning.proofs.Steps.{below-of, safe-at, safe-of}
 use Rattle.meaning.proofs.Winning.{round-from}
-use Rattle.meaning.proofs.Realizes.{count-start, start-length}
+use Rattle.meaning.proofs.Realizes.{start-length}
 use Rattle.meaning.proofs.Formed.{formed, next-has}
 use Rattle.meaning.proofs.Followed.{Fitting, following, closed-realizes, Attained, AllAttained, start-attained, round-attained}
 use Rattle.meaning.proofs.Followed.{overrun-attained}
 use Rattle.counts.specs.Words.{countsIn}
 use Rattle.counts.proofs.Wide.{wide-count}
-use Rattle.counts.proofs.Packing.{low-counts}
 use Rattle.checker.specs.Followable.{Followable}
 use Rattle.checker.specs.Raised.{countsAt, flagAt, NoneBefore}
 use Rattle.checker.specs.LedByRound.{ForAll, ledTo, AllLed, Overruns}
@@ -54,15 +53,6 @@ pub record Turning (K : ℕ) (t : Table) (rows : List Row) (from : ℕ) (most : 
 -- rows that can be followed fit the table
 pub fitting : {K : ℕ} {t : Table} {bytes : List ℕ} → Followable K t bytes → Fitting t (rowsIn bytes)
 fitting {bytes = bytes} f = record { formed = formed bytes (f .formed); outputs = f .outputs; inputs = f .inputs }
-
--- the start position has room in a word
-pub start-low : (K : ℕ) (t : Table) → K ≤ 7 → t .controllers ≤ 8 → every (λ c. leb c 127) (positionBytes (startPosition K t)) ≡ true
-start-low K t patience few =
-    low-counts (positionBytes (startPosition K t))
-    (λ q. ⊎-elim (λ (e : count (positionBytes (startPosition K t)) q ≡ 0). omega arith)
-    (λ c. let same = wide-count (startPosition K t) (rw (start-length K t) few) q in
-    omega (arith, same, count-start K t q (omega (arith, same)) .1))
-    (eq-zero-or-pos (count (positionBytes (startPosition K t)) q)))
 
 -- the flags: the first that is up, and none
 pub flag-up : (risen : List Bool) (s : ℕ) → s ≡ place (λ b. b) risen → length risen ≡ 256 → s < 256 → flagAt risen s ≡ true

@@ -30,7 +30,7 @@ pub fn keeps(table: Table, k: usize, rows: &[u8]) -> bool
     let out_marks = word::marks(world_marks);
     let in_spreads = word::spreads(input_targets);
     let in_marks = word::marks(controller_marks);
-    let begins = word::pack(&position::start(table.starts, controller_marks, table.controllers, k));
+    let begins = position::start(table.starts, controller_marks, table.controllers, k);
     // a run visits its first state too
     if !word::safe(begins, k) {
         return false;

@@ -11,7 +11,7 @@ pub fn raise(most: &mut [u64], risen: &mut [bool], s: usize, m: u64)
     ensures { λ _. ⌜ RaisedSafely s (countsIn m) (now (most .entry)) (now (risen .entry)) (now (most .exit)) (now (risen .exit)) ⌝ }
 {
     let held = most[s];
-    if word::below(m, held) {
+    if meaning::at_most(word::compare(m, held)) {
         return;
     }
     most[s] = word::greater(held, m);

@@ -11,7 +11,6 @@ use native.Mathlib.Omega.{arith}
 use borrow.Author.Tests.{lt-ltb, le-ltb}
 use lib.Bits.{bitAnd, bitOr, and-mask, and-comm, or-add-and, and-shr, or-shr, and-mod, or-mod, or-zero-l}
 use lib.Dec.{ltb}
-use lib.IntN.{ℤ}
 use lib.ListN.{length, getD}
 use Rattle.meaning.specs.Lists.{tab, smallest}
 use Rattle.meaning.specs.Table.{bit}
@@ -19,9 +18,8 @@ use Rattle.meaning.specs.Counting.{Position, count}
 use Rattle.meaning.proofs.Tests.{smallest-top}
 use Rattle.meaning.proofs.Lists.{tab-length, tab-at}
 use Rattle.meaning.proofs.Steps.{same-counts}
-use Rattle.counts.specs.Cells.{cell, cells, lesserCounts, halfOf, backUnder}
+use Rattle.counts.specs.Halves.{lesserCounts, halfOf, backUnder}
 use Rattle.counts.specs.declared.position.Half.{Half}
-use Rattle.counts.proofs.Cells.{cells-at}
 use Rattle.counts.proofs.Edges.{bit-beyond, within, smallest-next, smallest-within}
 use Rattle.counts.specs.Words.{countsBefore, countsIn, barCounts}
 use Rattle.counts.proofs.Lesser.{lesser-at}
@@ -98,45 +96,44 @@ over-bar : (b : Bool) (e : ℕ) → e ≤ 127 → bitOr (cond b 0 127) e ≡ con
 over-bar true e h = or-zero-l e
 over-bar false e h = highest-or e h
 
--- what target q leaves to source p: its count less its mark over an edge, at most the highest, and the highest where there is none
-abbrev offered : Half → List ℤ → ℕ → ℕ → ℕ
-offered half m p q = cond (bit (getD (half .masks) p 0) q) (min (cell m q - getD (half .marks) q 0) 127) 127
+-- what target q leaves to source p: its count less its mark over an edge, and the highest where there is none
+abbrev offered : Half → Position → ℕ → ℕ → ℕ
+offered half F p q = cond (bit (getD (half .masks) p 0) q) (count F q - getD (half .marks) q 0) 127
 
-offered-counts : (half : Half) (m : List ℤ) (word e p q : ℕ) → countsIn word ≡ barCounts (half .masks) q
-    → e ≡ min (cell m q - getD (half .marks) q 0) 127 → p < 8 → count (countsIn (bitOr word (e * ones))) p ≡ offered half m p q
-offered-counts half m word e p q bar count-is l =
-    let under : e ≤ 127 = omega arith in
+offered-counts : (half : Half) (F : Position) (word e p q : ℕ) → countsIn word ≡ barCounts (half .masks) q
+    → e ≡ count F q - getD (half .marks) q 0 → e ≤ 127 → p < 8 → count (countsIn (bitOr word (e * ones))) p ≡ offered half F p q
+offered-counts half F word e p q bar count-is under l =
     let at : count (countsIn word) p ≡ barred (half .masks) q p = ap (λ (F : Position). count F p) bar ∙ bar-at (half .masks) q p l in
     or-counts word (e * ones) p ∙ rw (at, all-counts e p under l) (over-bar (bit (getD (half .masks) p 0) q) e under ∙ rw count-is)
 
 -- and what it leaves under a count, beside the count itself
-abbrev leftTo : Half → List ℤ → ℕ → ℕ → ℕ → ℕ
-leftTo half m p top q = cond (bit (getD (half .masks) p 0) q) (count (cells m) q - getD (half .marks) q 0) top
+abbrev leftTo : Half → Position → ℕ → ℕ → ℕ → ℕ
+leftTo half F p top q = cond (bit (getD (half .masks) p 0) q) (count F q - getD (half .marks) q 0) top
 
 -- a word whose counts are the least of the most and of what the targets before q leave
-abbrev pub Lowered : Half → List ℤ → ℕ → ℕ → ℕ → Type 0
-Lowered half m most q low =
+abbrev pub Lowered : Half → Position → ℕ → ℕ → ℕ → Type 0
+Lowered half F most q low =
     (p : ℕ) → p < 8 → count (countsIn low) p
-    ≡ smallest (count (countsIn most) p) q (within (half .targets) (count (countsIn most) p) (offered half m p))
+    ≡ smallest (count (countsIn most) p) q (within (half .targets) (count (countsIn most) p) (offered half F p))
 
-module _ (half : Half) (m : List ℤ) (most q low : ℕ) (before : Lowered half m most q low) where
+module _ (half : Half) (F : Position) (most q low : ℕ) (before : Lowered half F most q low) where
   -- one more target, by its bar and its count in every byte
   pub lowered-by : (word e r : ℕ) → q < half .targets → countsIn word ≡ barCounts (half .masks) q
-      → e ≡ min (cell m q - getD (half .marks) q 0) 127
-      → countsIn r ≡ lesserCounts (countsIn low) (countsIn (bitOr word (e * ones))) → Lowered half m most (q + 1) r
-  lowered-by word e r inside bar count-is lesser p l =
+      → e ≡ count F q - getD (half .marks) q 0 → e ≤ 127
+      → countsIn r ≡ lesserCounts (countsIn low) (countsIn (bitOr word (e * ones))) → Lowered half F most (q + 1) r
+  lowered-by word e r inside bar count-is under lesser p l =
       let top = count (countsIn most) p in
       let all = bitOr word (e * ones) in
-      let least = within (half .targets) top (offered half m p) in
+      let least = within (half .targets) top (offered half F p) in
       ap (λ (F : Position). count F p) lesser ∙ lesser-at (countsIn low) (countsIn all) p
-      ∙ rw (before p l, offered-counts half m word e p q bar count-is l)
-      (sym (smallest-next top least q (offered half m p q) (rw (lt-ltb q (half .targets) inside))))
+      ∙ rw (before p l, offered-counts half F word e p q bar count-is under l)
+      (sym (smallest-next top least q (offered half F p q) (rw (lt-ltb q (half .targets) inside))))
 
   -- beyond the side there is none
-  pub lowered-still : half .targets ≤ q → Lowered half m most (q + 1) low
+  pub lowered-still : half .targets ≤ q → Lowered half F most (q + 1) low
   lowered-still beyond p l =
       let top = count (countsIn most) p in
-      let f = within (half .targets) top (offered half m p) in
+      let f = within (half .targets) top (offered half F p) in
       omega (arith, before p l, smallest-top top q f, smallest-next top f q top (rw (le-ltb q (half .targets) beyond)))
 
 -- numbers that are alike up to the top have the same smallest
@@ -150,19 +147,19 @@ either-alike true top x y z w h k = h
 either-alike false top x y z w h k = k
 
 -- what all eight targets leave to the sources, under the most, is the step back under it
-module _ (half : Half) (m : List ℤ) where
+module _ (half : Half) (F : Position) where
   offered-least : (p top : ℕ) → top ≤ 127
-      → smallest top 8 (within (half .targets) top (offered half m p)) ≡ smallest top (half .targets) (leftTo half m p top)
+      → smallest top 8 (within (half .targets) top (offered half F p)) ≡ smallest top (half .targets) (leftTo half F p top)
   offered-least p top low =
-      smallest-alike top 8 (within (half .targets) top (offered half m p)) (within (half .targets) top (leftTo half m p top))
+      smallest-alike top 8 (within (half .targets) top (offered half F p)) (within (half .targets) top (leftTo half F p top))
       (λ q b. either-alike (ltb q (half .targets)) top _ _ top top
-      (either-alike (bit (getD (half .masks) p 0) q) top _ _ 127 top (rw (cells-at m q b) (omega arith)) (omega arith)) refl)
-      ∙ smallest-within 8 (half .targets) (leftTo half m p top) top (λ q b. rw (bit-beyond (getD (half .masks) p 0) q b))
+      (either-alike (bit (getD (half .masks) p 0) q) top _ _ 127 top refl (omega arith)) refl)
+      ∙ smallest-within 8 (half .targets) (leftTo half F p top) top (λ q b. rw (bit-beyond (getD (half .masks) p 0) q b))
 
-  pub lowered-whole : (most low : ℕ) → Lowered half m most 8 low → countsIn low ≡ backUnder (countsIn most) (halfOf half) (cells m)
+  pub lowered-whole : (most low : ℕ) → Lowered half F most 8 low → countsIn low ≡ backUnder (countsIn most) (halfOf half) F
   unfolding halfOf backUnder
   lowered-whole most low least =
-      let back : ℕ → ℕ = λ p. smallest (count (countsIn most) p) (half .targets) (leftTo half m p (count (countsIn most) p)) in
+      let back : ℕ → ℕ = λ p. smallest (count (countsIn most) p) (half .targets) (leftTo half F p (count (countsIn most) p)) in
       let long : length (tab (length (countsIn most)) back) ≡ 8 = tab-length (length (countsIn most)) back ∙ countsIn-length most in
       same-counts (countsIn low) (tab (length (countsIn most)) back) (countsIn-length low ∙ sym long)
       (λ p b. let l : p < 8 = rw (countsIn-length low) at b in

@@ -17,7 +17,7 @@ use Rattle.meaning.specs.Lists.{before}
 use Rattle.meaning.specs.Counting.{Position, count, below}
 use Rattle.meaning.proofs.Tests.{both, both-left, both-right, same-test, cond-cases, ordered-cases, ordered-of}
 use Rattle.meaning.proofs.Steps.{same-counts, below-at, below-of}
-use Rattle.counts.specs.Cells.{lesserCounts, greaterCounts}
+use Rattle.counts.specs.Halves.{lesserCounts, greaterCounts}
 use Rattle.counts.specs.Words.{countsBefore, countsIn, flags}
 use Rattle.counts.proofs.Lesser.{lesser-length, lesser-at, greater-length, greater-at}
 

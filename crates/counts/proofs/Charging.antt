@@ -13,7 +13,7 @@ use lib.ListN.{length}
 use Rattle.meaning.specs.Counting.{Position, count, plus, safe, below}
 use Rattle.meaning.proofs.Tests.{same-test}
 use Rattle.meaning.proofs.Steps.{below-at, below-of, safe-at, safe-of}
-use Rattle.counts.specs.Cells.{lesserCounts}
+use Rattle.counts.specs.Halves.{lesserCounts}
 use Rattle.counts.specs.Words.{countsBefore, countsIn, flags, Charged}
 use Rattle.counts.proofs.Lesser.{lesser-at}
 use Rattle.counts.proofs.Bytes.{countsIn-length, last-count, bytes, and-byte, and-count, and-counts, flags-le, flags-whole}

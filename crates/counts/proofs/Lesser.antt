@@ -10,7 +10,7 @@ use Rattle.meaning.specs.Counting.{Position, count, below}
 use Rattle.meaning.specs.Written.{positionBytes}
 use Rattle.meaning.proofs.Lists.{tab-length, tab-at, tab-beyond}
 use Rattle.meaning.proofs.Steps.{count-beyond, same-counts, below-at, below-of, below-trans}
-use Rattle.counts.specs.Cells.{lesserCounts, greaterCounts}
+use Rattle.counts.specs.Halves.{lesserCounts, greaterCounts}
 use Rattle.counts.proofs.Wide.{wide-at, wide-length}
 
 -- lesser counts

@@ -1,18 +1,18 @@
 -- Signed counts as the code meets them: a signed test, and the casts between bytes and signed numbers. What each step of one count comes
 -- to, read one higher, is said in meaning (Signed.antt). By cases on the signs. Assumes nothing.
-use mathlib.Core.Path.{_≡_, refl, sym, ap, _∙_}
+use mathlib.Core.Path.{_≡_, refl}
 use mathlib.Core.Bool.{true, false, true≢false}
 use Prim.Native.Nat.{ℕ, zero, suc, _≤_, _<_, zero-le}
 use native.Mathlib.Nat.{not-suc-le-zero}
 use native.Mathlib.Decide.{decLt}
 use native.Mathlib.Omega.{arith}
-use lib.Dec.{T, leb, leb·zero, leb·suc-zero, leb·suc-suc}
+use lib.Dec.{T}
 use lib.IntN.{ℤ, pos, negsuc, natAbs, _-ℤ_}
-use lib.Signed.{mag, ltZ, leZ, nonNeg}
+use lib.Signed.{mag, ltZ, nonNeg}
 use borrow.Author.Tests.{ltb-true, le-ltb}
 use mir.Syntax.{w8, w16}
 use mir.Val.{SFits, toZ, ofZ}
-use mir.ValLaws.{toZ-pos, toZ-ofZ}
+use mir.ValLaws.{toZ-ofZ}
 use Rattle.meaning.specs.Counting.{oneHigher}
 use Rattle.meaning.specs.Signed.{noRun, maxZ, plusSigned, oneLower}
 use Rattle.meaning.proofs.Signed.{less-short, less-enough, less-negative}
@@ -35,22 +35,9 @@ pub small : (a : ℤ) → SFits w8 a → ltZ a (pos 0) ≡ false → natAbs a < 
 small (pos a) f t = f .sfits
 small (negsuc a) f t = absurd (true≢false t)
 
--- the order of two counts
-pub at-most-negative : (a b : ℤ) → ltZ a (pos 0) ≡ true → true ≡ leb (oneHigher a) (oneHigher b)
-at-most-negative a b t = sym (ap (λ (n : ℕ). leb n (oneHigher b)) (negative a t) ∙ leb·zero (oneHigher b))
-
-pub at-most-counted : (a b : ℤ) → ltZ a (pos 0) ≡ false → leZ a b ≡ leb (oneHigher a) (oneHigher b)
-at-most-counted (pos a) (pos b) t = sym (leb·suc-suc a b)
-at-most-counted (pos a) (negsuc b) t = sym (leb·suc-zero a)
-at-most-counted (negsuc a) b t = absurd (true≢false t)
-
 -- the bits of a signed byte stand for it
 pub from-bits : (a : ℤ) → mag a < 128 → toZ w8 (ofZ w8 a) ≡ a
 from-bits a h = toZ-ofZ w8 a (record { sfits = h })
-
--- a byte below 128 is that count
-pub byte-counted : (n : ℕ) → n < 128 → oneHigher (toZ w8 n) ≡ suc n
-byte-counted n h = ap oneHigher (toZ-pos w8 n h)
 
 -- and a signed byte fits a signed number of two bytes
 pub wider : (a : ℤ) → SFits w8 a → SFits w16 a

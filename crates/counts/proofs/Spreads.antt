@@ -20,7 +20,7 @@ use Rattle.meaning.specs.Written.{positionBytes}
 use Rattle.meaning.proofs.Tests.{refuted, largest-same, largest-zero}
 use Rattle.meaning.proofs.Lists.{tab-length, tab-at}
 use Rattle.meaning.proofs.Steps.{count-nowhere, count-beyond, same-counts, plus-mono, plus-none, forward-length, forward-at}
-use Rattle.counts.specs.Cells.{greaterCounts}
+use Rattle.counts.specs.Halves.{greaterCounts}
 use Rattle.counts.specs.Words.{countsBefore, countsIn, spreadCounts, markCounts, Charged, StatedIn, SteppedForward}
 use Rattle.counts.proofs.Edges.{within, largest-next, largest-within}
 use Rattle.counts.proofs.Wide.{wide-length, wide-at}

@@ -1,6 +1,6 @@
 -- A position of at most eight states, widened to eight counts: it has the same counts, so every definition that reads counts alone says
--- the same of both, and widening loses nothing. An array m with `cells m ≡ positionBytes F` stands for F: these laws carry what the code
--- gives for m over to F. By the laws of a tab; the order of byte strings by induction. Assumes nothing.
+-- the same of both, and widening loses nothing. A word w with `countsIn w ≡ positionBytes F` stands for F: these laws carry what the code
+-- gives for w over to F. By the laws of a tab; the order of byte strings by induction. Assumes nothing.
 use mathlib.Core.Path.{_≡_, sym, ap, _∙_}
 use mathlib.Core.Bool.{Bool, false, cond, _&&_, _||_}
 use mathlib.Core.List.{[], _∷_}
@@ -20,7 +20,7 @@ use Rattle.meaning.proofs.Ascending.{before-irrefl}
 use Rattle.meaning.proofs.Steps.{count-beyond, same-counts, below-at, below-of, back-length, back-at}
 use Rattle.meaning.proofs.Buffers.{position-bytes}
 use Rattle.meaning.proofs.Readings.{bytes-at}
-use Rattle.counts.specs.Cells.{backUnder}
+use Rattle.counts.specs.Halves.{backUnder}
 
 -- its length and its counts
 pub wide-length : (F : Position) → length (positionBytes F) ≡ 8

@@ -1,3 +1,3 @@
 -- What the contracts of this crate cite beside the definitions of `meaning`.
-pub mod Cells
+pub mod Halves
 pub mod Words

@@ -1,23 +1,8 @@
 // One count: a small signed integer, -1 where no run is. Any negative number is taken for -1, and none but -1 is given for it.
 ghost use mathlib.Core.Path.{_≡_};
 ghost use Prim.Native.Nat.{_≤_, min};
-ghost use lib.Dec.{leb};
 ghost use Rattle.meaning.specs.Counting.{oneHigher};
-ghost use Rattle.meaning.specs.Signed.{minZ, maxZ, plusSigned, lessSigned, oneLower};
-
-// Whether one count is at most another.
-pub fn at_most(a: i8, b: i8) -> bool
-    ensures { λ r. ⌜ r ≡ leb (oneHigher a) (oneHigher b) ⌝ }
-{
-    a < 0 || a <= b
-}
-
-// The lesser of two counts.
-pub fn lesser(a: i8, b: i8) -> i8
-    ensures { λ r. ⌜ r ≡ minZ a b ⌝ }
-{
-    if a < b { a } else { b }
-}
+ghost use Rattle.meaning.specs.Signed.{maxZ, plusSigned, lessSigned, oneLower};
 
 // The greater of two counts.
 pub fn greater(a: i8, b: i8) -> i8

@@ -1,14 +1,14 @@
-// One position in a 64-bit word: a byte for each of its eight counts, one higher, the first in the
-// highest. A byte's top bit is no part of its count, so all eight are compared by one subtraction.
+// All counts of a position at once. A byte's top bit is no part of its count, so all eight are compared by one subtraction.
 use crate::count;
+use crate::position;
 use crate::position::Half;
+use meaning::Comparison;
 ghost use mathlib.Core.Path.{_≡_};
-ghost use mathlib.Core.Bool.{true};
 ghost use Prim.Native.Nat.{_≤_, _<_};
-ghost use lib.Dec.{leb};
-ghost use Rattle.meaning.specs.Lists.{before as beforeBytes, every};
-ghost use Rattle.meaning.specs.Counting.{safe as safeAt, below as belowAll};
-ghost use Rattle.counts.specs.Cells.{cells, lesserCounts, greaterCounts, halfOf, backUnder};
+ghost use Rattle.meaning.specs.Lists.{before as beforeBytes};
+ghost use Rattle.meaning.specs.Counting.{safe as safeAt};
+ghost use Rattle.meaning.specs.Compared.{compared};
+ghost use Rattle.counts.specs.Halves.{lesserCounts, greaterCounts, halfOf, backUnder};
 ghost use Rattle.counts.specs.Words.{countsIn, flags, barCounts, BarsOf};
 ghost use Rattle.counts.specs.Words.{spreadCounts, SpreadsOf, markCounts, Charged, SteppedForward};
 
@@ -19,35 +19,6 @@ const COUNTS: u64 = 0x7F7F_7F7F_7F7F_7F7F;
 // One in each byte.
 const ONES: u64 = 0x0101_0101_0101_0101;
 
-// Eight counts of at most 126, in a word.
-pub fn pack(m: &[i8; 8]) -> u64
-    requires { ⌜ every (λ c. leb c 127) (cells (now m)) ≡ true ⌝ }
-    ensures { λ r. ⌜ countsIn r ≡ cells (now (m .entry)) ⌝ }
-{
-    let mut word = 0u64;
-    let mut q = 0;
-    while q < 8 {
-        word = word * 256 + count::to_byte(m[q]) as u64;
-        q += 1;
-    }
-    word
-}
-
-// The counts of a word.
-pub fn unpack(word: u64) -> [i8; 8]
-    ensures { λ r. ⌜ cells r ≡ countsIn word ⌝ }
-{
-    let mut out = [-1i8; 8];
-    let mut left = word;
-    let mut q = 8;
-    while 0 < q {
-        q -= 1;
-        out[q] = count::from_byte((left % 128) as u8);
-        left = left / 256;
-    }
-    out
-}
-
 // In the top bit of each byte whether the one's count is at most the other's. A byte with its top
 // bit set borrows nothing from the next, whatever count is taken off.
 fn at_most(a: u64, b: u64) -> u64
@@ -56,11 +27,25 @@ fn at_most(a: u64, b: u64) -> u64
     ((b | TOPS) - (a & COUNTS)) & TOPS
 }
 
-// Whether each count of one position is at most the other's.
-pub fn below(a: u64, b: u64) -> bool
-    ensures { λ r. ⌜ r ≡ belowAll (countsIn a) (countsIn b) ⌝ }
+// What two positions compare to. A caller that asks for at most alone is left with one of the two subtractions.
+pub fn compare(a: u64, b: u64) -> Comparison
+    ensures { λ r. ⌜ r ≡ compared (countsIn a) (countsIn b) ⌝ }
 {
-    at_most(a, b) == TOPS
+    let under = at_most(a, b) == TOPS;
+    let over = at_most(b, a) == TOPS;
+    if under {
+        if over {
+            Comparison::Same
+        } else {
+            Comparison::Below
+        }
+    } else {
+        if over {
+            Comparison::Above
+        } else {
+            Comparison::Neither
+        }
+    }
 }
 
 // The lesser counts of two positions: the bytes of one where its count is at most the other's, and
@@ -85,7 +70,7 @@ pub fn safe(word: u64, k: usize) -> bool
     requires { ⌜ k ≤ 7 ⌝ }
     ensures { λ r. ⌜ r ≡ safeAt k (countsIn word) ⌝ }
 {
-    below(word, (k as u64 + 1) * ONES)
+    at_most(word, (k as u64 + 1) * ONES) == TOPS
 }
 
 // Whether one position comes before another, ascending as byte strings.
@@ -129,16 +114,15 @@ pub fn bars(half: Half) -> [u64; 8]
 
 // The step back by a letter: from the most that is safe to the least that each target leaves to its
 // sources, all of them at once.
-pub fn back(m: &[i8; 8], half: Half, bars: &[u64; 8], most: u64) -> u64
+pub fn back(m: u64, half: Half, bars: &[u64; 8], most: u64) -> u64
     requires { ⌜ BarsOf (half .masks) (half .targets) (now bars) ⌝ }
-    ensures { λ r. ⌜ countsIn r ≡ backUnder (countsIn most) (halfOf half) (cells (now (m .entry))) ⌝ }
+    ensures { λ r. ⌜ countsIn r ≡ backUnder (countsIn most) (halfOf half) (countsIn m) ⌝ }
 {
     let mut low = most;
     let mut q = 0;
     while q < 8 {
         if q < half.targets {
-            // no higher than a byte has room for below its top bit
-            let eased = count::lesser(count::less(m[q], half.marks[q]), 126);
+            let eased = count::less(position::at(m, q), half.marks[q]);
             let all = count::to_byte(eased) as u64 * ONES;
             low = lesser(low, bars[q] | all);
         }

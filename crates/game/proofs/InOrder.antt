@@ -7,7 +7,6 @@ use mathlib.Core.List.{List, _∷_, _++_}
 use Prim.Native.Nat.{ℕ, _≤_, _<_}
 use native.Mathlib.Omega.{arith}
 use borrow.Author.Tests.{lt-ltb, le-ltb}
-use lib.IntN.{ℤ}
 use Rattle.meaning.specs.declared.Answer.{Answer}
 use Rattle.meaning.specs.declared.Refusal.{Refusal}
 use Rattle.meaning.specs.declared.Refusal.the-variants.{Bound, Room, Full}
@@ -75,7 +74,7 @@ passes-fit which bytes p =
     }
 
 -- checks 11 and 12 of a stage
-module _ {K : ℕ} {t : Table} {X : Set} {N : ℕ} {out : List (List ℤ)} {settled : Settled} (settles : Settles K t X N out settled) where
+module _ {K : ℕ} {t : Table} {X : Set} {N : ℕ} {out : List ℕ} {settled : Settled} (settles : Settles K t X N out settled) where
   -- FULL, whatever a call makes of it
   pub stage-full : {A : Type 0} (which : ℕ) (refuse : Check → A) (grant : A) → settled ≡ FullAfter
       → judge (stageChecks which K N t X) refuse grant ≡ refuse (check Full 0 which true)

@@ -17,7 +17,7 @@ ghost use Rattle.game.specs.Finished.{finished, Roomy};
 pub fn finish(
     table: Table,
     k: usize,
-    list: &[[i8; 8]],
+    list: &[u64],
     n: usize,
     rounds: usize,
     winners: &mut [u8],
@@ -33,11 +33,8 @@ pub fn finish(
     }
     writing::write_winners(list, n, winners);
     let marks = table.controller_marks;
-    let start = writing::covering(
-        list,
-        n,
-        &position::start(table.starts, marks, table.controllers, k),
-    );
+    let begins = position::start(table.starts, marks, table.controllers, k);
+    let start = writing::covering(list, n, begins);
     if n <= start {
         return Answer {
             verdict: Verdict::Unrealizable,

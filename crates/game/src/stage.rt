@@ -20,7 +20,7 @@ pub fn stage(
     table: Table,
     k: usize,
     room: usize,
-    first: &[[i8; 8]],
+    first: &[u64],
     n: usize,
     winners: &mut [u8],
     controller: &mut [u8],
@@ -30,7 +30,7 @@ pub fn stage(
     ensures { λ r. ⌜ solved r (now (winners .exit)) (now (controller .exit)) ≡ staged k room (tableIn table)
         (coveredBy (tableIn table .controllers) (members (now (first .entry)) n)) (now (winners .entry)) (now (controller .entry)) ⌝ }
 {
-    let mut list = [[-1i8; 8]; 256];
+    let mut list = [0u64; 256];
     let settled = rounds::settle(table, k, room, first, n, &mut list);
     let Settled::After(rounds, number) = settled else {
         return meaning::refused(Refusal::Full, 0, 0);

@@ -4,7 +4,6 @@ use mathlib.Core.Path.{_≡_, ap}
 use mathlib.Core.List.{List}
 use Prim.Native.Nat.{ℕ, _<_}
 use native.Mathlib.Omega.{arith}
-use lib.IntN.{ℤ}
 use lib.ListN.{length}
 use borrow.Author.Tests.{ne-eqb}
 use Rattle.meaning.specs.declared.Answer.{Answer}
@@ -20,7 +19,7 @@ use Rattle.rounds.specs.declared.Settled.the-variants.{After}
 use Rattle.rounds.specs.Rounds.{Settles}
 use Rattle.rounds.proofs.Settles.{after-settled}
 
-module _ {K : ℕ} {t : Table} {X : Set} {N : ℕ} {out : List (List ℤ)} {settled : Settled} (h : Settles K t X N out settled) where
+module _ {K : ℕ} {t : Table} {X : Set} {N : ℕ} {out : List ℕ} {settled : Settled} (h : Settles K t X N out settled) where
   module _ {r n : ℕ} (after : settled ≡ After r n) (first : FirstSet K t X) where
     -- a stage before the last is passed
     pub stage-passed : {A : Type 0} → 0 < t .outputs → (which : ℕ) (refuse : Check → A) (grant : A)

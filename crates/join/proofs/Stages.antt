@@ -5,7 +5,6 @@ use mathlib.Core.Path.{_≡_, sym, ap, _∙_}
 use mathlib.Core.Bool.{true}
 use mathlib.Core.List.{List, [], _∷_, _++_, map}
 use Prim.Native.Nat.{ℕ, _≤_, _<_}
-use lib.IntN.{ℤ}
 use lib.Dec.{ltb}
 use lib.ListN.{length}
 use borrow.Author.Tests.{lt-ltb, le-ltb}
@@ -138,12 +137,12 @@ module _ (one two : List ℕ) (K N : ℕ) (win con : List ℕ) where
 
   -- by what the rounds of each table alone answer
   module _ (p : Passes (pairChecks one two))
-      {ones : List (List ℤ)} {first : Settled} (settles : Settles K (stated one) (allSafe K (stated one .controllers)) N ones first) where
+      {ones : List ℕ} {first : Settled} (settles : Settles K (stated one) (allSafe K (stated one .controllers)) N ones first) where
     pub first-full : first ≡ S.Full → inTurn one two K N win con ≡ unsolved win con (check Full 0 1 true)
     first-full e = stages-apart ∙ stage-full settles 1 (unsolved win con) _ e
 
     module _ {r n : ℕ} (after : first ≡ S.After r n)
-        {twos : List (List ℤ)} {second : Settled} (other : Settles K (stated two) (allSafe K (stated two .controllers)) N twos second) where
+        {twos : List ℕ} {second : Settled} (other : Settles K (stated two) (allSafe K (stated two .controllers)) N twos second) where
       first-passed : inTurn one two K N win con
           ≡ judge (alone 2 two) (unsolved win con) (judge crowded (unsolved win con) (lastStage one two K N win con))
       first-passed = stages-apart ∙ stage-passed settles after (allSafe-first K (stated one)) (first-output one two p) 1

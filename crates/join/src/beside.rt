@@ -1,53 +1,55 @@
 // Positions of two tables side by side: one pair, and all pairs of two lists.
+use counts::count;
+use counts::position;
 use tops::Found;
 ghost use mathlib.Core.Path.{_≡_};
 ghost use mathlib.Core.List.{_++_, map};
 ghost use Prim.Native.Nat.{_+_, _≤_};
 ghost use lib.ListN.{length};
-ghost use Rattle.counts.specs.Cells.{cells};
+ghost use Rattle.counts.specs.Words.{countsIn};
 ghost use Rattle.lists.specs.Members.{members};
 ghost use Rattle.tops.specs.Held.{Holds};
 ghost use Rattle.join.specs.Beside.{besideAt, allBeside};
 
 // A position of n states, and from there on another.
-pub fn beside(a: &[i8; 8], n: usize, b: &[i8; 8]) -> [i8; 8]
-    ensures { λ r. ⌜ cells r ≡ besideAt n (cells (now (a .entry))) (cells (now (b .entry))) ⌝ }
+pub fn beside(a: u64, n: usize, b: u64) -> u64
+    ensures { λ r. ⌜ countsIn r ≡ besideAt n (countsIn a) (countsIn b) ⌝ }
 {
-    let mut out = [-1i8; 8];
+    let mut word = 0u64;
     let mut q = 0;
     while q < 8 {
-        if q < n {
-            out[q] = a[q];
+        let count = if q < n {
+            position::at(a, q)
         } else {
-            out[q] = b[q - n];
-        }
+            position::at(b, q - n)
+        };
+        word = word * 256 + count::to_byte(count) as u64;
         q += 1;
     }
-    out
+    word
 }
 
 // Puts after the first `at` members of `out` a position beside each of a list.
-fn append(a: &[i8; 8], n: usize, b: &[[i8; 8]], bn: usize, out: &mut [[i8; 8]], at: usize)
+fn append(a: u64, n: usize, b: &[u64], bn: usize, out: &mut [u64], at: usize)
     requires { ⌜ (bn ≤ length (now b)) × (at + bn ≤ length (now out)) ⌝ }
     ensures { λ _. ⌜ members (now (out .exit)) (at + bn)
-        ≡ members (now (out .entry)) at ++ map (besideAt n (cells (now (a .entry)))) (members (now (b .entry)) bn) ⌝ }
+        ≡ members (now (out .entry)) at ++ map (besideAt n (countsIn a)) (members (now (b .entry)) bn) ⌝ }
 {
     let mut j = 0;
     while j < bn {
-        let y = b[j];
-        out[at + j] = beside(a, n, &y);
+        out[at + j] = beside(a, n, b[j]);
         j += 1;
     }
 }
 
 // Each position of the first list, of n states, beside each of the second: ascending, as the lists are.
 pub fn pairs(
-    a: &[[i8; 8]],
+    a: &[u64],
     an: usize,
-    b: &[[i8; 8]],
+    b: &[u64],
     bn: usize,
     n: usize,
-    out: &mut [[i8; 8]],
+    out: &mut [u64],
     room: usize,
 ) -> Found
     requires { ⌜ (an ≤ 256) × (bn ≤ 256) × (an ≤ length (now a)) × (bn ≤ length (now b)) × (room ≤ length (now out)) ⌝ }
@@ -59,8 +61,7 @@ pub fn pairs(
     let mut end = 0;
     let mut i = 0;
     while i < an {
-        let x = a[i];
-        append(&x, n, b, bn, out, end);
+        append(a[i], n, b, bn, out, end);
         end += bn;
         i += 1;
     }

@@ -25,7 +25,7 @@ fn last(
     second: &[u8],
     k: usize,
     room: usize,
-    list: &[[i8; 8]],
+    list: &[u64],
     n: usize,
     winners: &mut [u8],
     controller: &mut [u8],
@@ -60,17 +60,17 @@ pub fn in_turn(
 {
     let one = read.first;
     let two = read.second;
-    let mut ones = [[-1i8; 8]; 256];
+    let mut ones = [0u64; 256];
     let alone_first = rounds::settle_all(one, k, room, &mut ones);
     let Settled::After(_, an) = alone_first else {
         return meaning::refused(Refusal::Full, 0, 1);
     };
-    let mut twos = [[-1i8; 8]; 256];
+    let mut twos = [0u64; 256];
     let alone_second = rounds::settle_all(two, k, room, &mut twos);
     let Settled::After(_, bn) = alone_second else {
         return meaning::refused(Refusal::Full, 0, 2);
     };
-    let mut list = [[-1i8; 8]; 256];
+    let mut list = [0u64; 256];
     let found = beside::pairs(&ones, an, &twos, bn, one.controllers, &mut list, room);
     let Found::Number(n) = found else {
         return meaning::refused(Refusal::Full, 0, 0);

@@ -2,6 +2,5 @@
 pub mod Put
 pub mod Insert
 pub mod Sorted
-pub mod Firsts
 pub mod Members
 pub mod OneMore

@@ -1,3 +1,2 @@
-// Lists of positions in arrays: eight counts each, or a word each.
-pub mod positions;
+// Lists of positions in arrays.
 pub mod words;

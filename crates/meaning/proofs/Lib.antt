@@ -9,6 +9,7 @@ pub mod Ascending
 pub mod Steps
 pub mod Signed
 -- positions and rounds
+pub mod Compared
 pub mod Positions
 pub mod Rounds
 pub mod Maximal

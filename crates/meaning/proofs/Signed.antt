@@ -1,7 +1,6 @@
--- The paper's signed counts, read one higher (`oneHigher`), are the counts of the definitions: the lesser and the greater of two
--- (`lesser-signed`, `greater-signed`), a run that enters a state (`plus-signed`), the step back (`less-signed`) and a winners' byte
--- (`lower-signed`). By cases on the signs. Then the ends by name: -1 stays -1 going forward, K + 1 is reached and seen, and the step
--- back floors at -1.
+-- The paper's signed counts, read one higher (`oneHigher`), are the counts of the definitions: the greater of two (`greater-signed`), a run
+-- that enters a state (`plus-signed`), the step back (`less-signed`) and a winners' byte (`lower-signed`). By cases on the signs. Then the
+-- ends by name: -1 stays -1 going forward, K + 1 is reached and seen, and the step back floors at -1.
 use mathlib.Core.Path.{_≡_, refl, sym, ap, _∙_}
 use mathlib.Core.Bool.{true, false, true≢false}
 use Prim.Native.Nat.{ℕ, zero, suc, _+_, _-_, _≤_, _<_, min, max, zero-le}
@@ -31,13 +30,7 @@ not-ordered (pos a) (negsuc b) t = zero-le
 not-ordered (negsuc a) (pos b) t = absurd (true≢false t)
 not-ordered (negsuc a) (negsuc b) t = zero-le
 
--- the lesser and the greater of two
-pub lesser-signed : (a b : ℤ) → oneHigher (minZ a b) ≡ min (oneHigher a) (oneHigher b)
-unfolding minZ
-lesser-signed a b =
-    cond-cases (ltZ a b) a b (λ z. oneHigher z ≡ min (oneHigher a) (oneHigher b))
-    (λ t. omega (arith, ordered a b t)) (λ t. omega (arith, not-ordered a b t))
-
+-- the greater of two
 pub greater-signed : (a b : ℤ) → oneHigher (maxZ a b) ≡ max (oneHigher a) (oneHigher b)
 unfolding maxZ
 greater-signed a b =

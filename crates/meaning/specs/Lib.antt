@@ -3,6 +3,7 @@ pub mod Lists
 pub mod Records
 pub mod Table
 pub mod Counting
+pub mod Compared
 pub mod Signed
 pub mod Rounds
 pub mod Written

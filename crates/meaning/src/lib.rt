@@ -1,8 +1,9 @@
-// The types that every call answers with, the documents' number for each of their cases, and what tables
-// and rows are both asked: their size.
+// The types that every call answers with, the documents' number for each of their cases, how two positions
+// compare, and what tables and rows are both asked: their size.
 ghost use mathlib.Core.Path.{_≡_};
 ghost use mathlib.Core.Bool.{true};
 ghost use Rattle.meaning.specs.Checks.{check, wrongSize};
+ghost use Rattle.meaning.specs.Compared.{atMost};
 ghost use Rattle.meaning.specs.Answers.{numberOf, codeOf, startOf, refused as refusedBy};
 
 // "Every answer carries a code, a place, which .., rounds, number of winners, start. The verdict
@@ -37,6 +38,14 @@ pub enum Refusal {
     Letters,
     Size,
     Rows,
+}
+
+// How one position stands to another, of the same side.
+pub enum Comparison {
+    Same,
+    Below,
+    Above,
+    Neither,
 }
 
 // The number of a refusal in the documents' table.
@@ -93,6 +102,18 @@ pub fn refused(refusal: Refusal, place: usize, which: usize) -> Answer
         which,
         rounds: 0,
         winners: 0,
+    }
+}
+
+// Whether a comparison says that each count of the one is at most the other's.
+pub fn at_most(comparison: Comparison) -> bool
+    ensures { λ r. ⌜ r ≡ atMost comparison ⌝ }
+{
+    match comparison {
+        Comparison::Same => true,
+        Comparison::Below => true,
+        Comparison::Above => false,
+        Comparison::Neither => false,
     }
 }
 

@@ -6,7 +6,6 @@ use Prim.Native.Nat.{ℕ, suc, _≤_, _<_, max}
 use native.Mathlib.Decide.{decLt}
 use native.Mathlib.Omega.{arith}
 use borrow.Author.Tests.{lt-ltb, le-ltb}
-use lib.IntN.{ℤ}
 use lib.ListN.{length}
 use Rattle.meaning.specs.Lists.{largest}
 use Rattle.meaning.specs.Counting.{Position}
@@ -20,7 +19,7 @@ use Rattle.tops.proofs.Held.{full-held, number-held}
 use Rattle.rounds.specs.Rounds.{HoldsLast}
 
 -- what the answer of a run says of the widest of its lists, and of the array
-module _ {room widest : ℕ} {last : List Position} {out : List (List ℤ)} where
+module _ {room widest : ℕ} {last : List Position} {out : List ℕ} where
   pub last-full : room < widest → HoldsLast room widest last out Full
   last-full h = record { answer = rw (lt-ltb room widest h); held = λ k. absurd (omega arith) }
 
@@ -63,7 +62,7 @@ module _ {room widest : ℕ} {last : List Position} {out : List (List ℤ)} wher
             }
 
 -- the array, as long as at first, holds the n of list i, within the room as all lists before it
-pub record Runs (room : ℕ) (lists : ℕ → List Position) (i : ℕ) (old out : List (List ℤ)) (n : ℕ) : Type 0 where
+pub record Runs (room : ℕ) (lists : ℕ → List Position) (i : ℕ) (old out : List ℕ) (n : ℕ) : Type 0 where
   pub within : n ≤ room
   pub long : length out ≡ length old
   pub holds : members out n ≡ lists i
@@ -71,14 +70,14 @@ pub record Runs (room : ℕ) (lists : ℕ → List Position) (i : ℕ) (old out 
 
 module _ {room : ℕ} (lists : ℕ → List Position) where
   -- no letter yet
-  pub runs-none : {old out : List (List ℤ)} {n : ℕ} → n ≤ room → n ≤ length out → length out ≡ length old → members out n ≡ lists 0
+  pub runs-none : {old out : List ℕ} {n : ℕ} → n ≤ room → n ≤ length out → length out ≡ length old → members out n ≡ lists 0
       → Runs room lists 0 old out n
   runs-none {out = out} {n = n} h k long e =
       record { within = h; long = long; holds = e; roomy = omega (arith, ap length e, members-length out n k) }
 
-  module _ {i : ℕ} {old out : List (List ℤ)} {n : ℕ} (so-far : Runs room lists i old out n) where
+  module _ {i : ℕ} {old out : List ℕ} {n : ℕ} (so-far : Runs room lists i old out n) where
     -- one letter more
-    pub runs-more : {out′ : List (List ℤ)} {found : Found} {m : ℕ} → Holds room (lists (suc i)) out′ found → found ≡ Number m
+    pub runs-more : {out′ : List ℕ} {found : Found} {m : ℕ} → Holds room (lists (suc i)) out′ found → found ≡ Number m
         → length out′ ≡ length out → room ≤ length old → Runs room lists (suc i) old out′ m
     runs-more {out′} {found} {m} h e long k =
         let r = number-held h e in
@@ -104,6 +103,6 @@ module _ {room : ℕ} (lists : ℕ → List Position) where
     runs-whole k = last-number (so-far .roomy) (omega (arith, so-far .within, so-far .long)) (so-far .holds)
 
   -- a list past the room
-  pub runs-full : {i last : ℕ} {out : List (List ℤ)} {found : Found} → Holds room (lists i) out found → found ≡ Full → i ≤ last
+  pub runs-full : {i last : ℕ} {out : List ℕ} {found : Found} → Holds room (lists i) out found → found ≡ Full → i ≤ last
       → HoldsLast room (largest (suc last) (λ j. length (lists j))) (lists last) out Full
   runs-full {i} {last} h e k = last-full (omega (arith, full-held h e, largest-at (suc last) (λ j. length (lists j)) i (omega arith)))

@@ -7,7 +7,6 @@ use mathlib.Core.List.{List, map}
 use Prim.Native.Nat.{ℕ, zero, suc, _+_, _≤_, _<_, _^_}
 use native.Mathlib.Decide.{decLt}
 use native.Mathlib.Omega.{arith}
-use lib.IntN.{ℤ}
 use lib.ListN.{length, length-map}
 use Rattle.meaning.specs.Table.{Table}
 use Rattle.meaning.specs.Counting.{Position}
@@ -38,7 +37,7 @@ module _ (K : ℕ) (t : Table) (ws : List Position) where
   )
 
 -- FULL, whatever the array holds
-settles-full : {K : ℕ} {t : Table} {X : Set} {room : ℕ} {out : List (List ℤ)} → full K t X room ≡ true → Settles K t X room out Full
+settles-full : {K : ℕ} {t : Table} {X : Set} {room : ℕ} {out : List ℕ} → full K t X room ≡ true → Settles K t X room out Full
 settles-full f = record { answer = rw f; held = λ e. absurd (true≢false (sym f ∙ e)) }
 
 module _ {K : ℕ} {t : Table} {l : List Position} (list : FirstList K t l) where
@@ -46,7 +45,7 @@ module _ {K : ℕ} {t : Table} {l : List Position} (list : FirstList K t l) wher
   abbrev X : Set
   X = coveredBy (t .controllers) l
 
-  pub settles-first-full : {room : ℕ} {out : List (List ℤ)} → room < length l → Settles K t X room out Full
+  pub settles-first-full : {room : ℕ} {out : List ℕ} → room < length l → Settles K t X room out Full
   settles-first-full {room} h = settles-full (first-full K t (list .small) X (list .first) (list .some-output) room l (list .stands) h)
 
   pub settles-start : {room : ℕ} → length l ≤ room → Running K t X room zero l
@@ -57,7 +56,7 @@ module _ {K : ℕ} {t : Table} {l : List Position} (list : FirstList K t l) wher
     settles-bound = running-bound K t (list .small) X (list .first) (list .some-output) room r ws run
 
     -- a list of this round is past the room
-    pub settles-round-full : {out : List (List ℤ)} → room < widestOf K t ws → Settles K t X room out Full
+    pub settles-round-full : {out : List ℕ} → room < widestOf K t ws → Settles K t X room out Full
     unfolding widestA widestB widestOf
     settles-round-full {out} h = go (decLt room (widestA K t ws))
       where
@@ -84,7 +83,7 @@ module _ {K : ℕ} {t : Table} {l : List Position} (list : FirstList K t l) wher
       settles-next = running-next K t (list .small) X (list .first) (list .some-output) room r ws run roomy-A roomy-B
 
       -- the repeat
-      pub settles-repeat : {out : List (List ℤ)} {n : ℕ} → nextList K t ws ≡ ws → n ≡ length ws → members out n ≡ ws
+      pub settles-repeat : {out : List ℕ} {n : ℕ} → nextList K t ws ≡ ws → n ≡ length ws → members out n ≡ ws
           → Settles K t X room out (After r n)
       settles-repeat {out} {n} e s m =
           let (last, won, roomy) = running-settled K t (list .small) X (list .first) (list .some-output) room r ws run roomy-A roomy-B e in
@@ -92,7 +91,7 @@ module _ {K : ℕ} {t : Table} {l : List Position} (list : FirstList K t l) wher
           record { answer = rw (roomy, last, number); held = λ _. rw number (m ∙ won) }
 
 -- what the answer tells: FULL, or the rounds and the winners, which the array holds and which have room
-module _ {K : ℕ} {t : Table} {X : Set} {room : ℕ} {out : List (List ℤ)} {settled : Settled} (h : Settles K t X room out settled) where
+module _ {K : ℕ} {t : Table} {X : Set} {room : ℕ} {out : List ℕ} {settled : Settled} (h : Settles K t X room out settled) where
   pub full-settled : settled ≡ Full → full K t X room ≡ true
   full-settled e = go (full K t X room) refl
     where

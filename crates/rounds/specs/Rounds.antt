@@ -4,7 +4,6 @@ use mathlib.Core.Bool.{false, cond, _&&_}
 use mathlib.Core.List.{List, map}
 use Prim.Native.Nat.{ℕ, suc, _≤_, _<_, max}
 use lib.Dec.{eqb, ltb}
-use lib.IntN.{ℤ}
 use lib.ListN.{length}
 use Rattle.meaning.specs.Lists.{largest}
 use Rattle.meaning.specs.Table.{Table, Small}
@@ -43,11 +42,11 @@ unfoldable pub widestOf : ℕ → Table → List Position → ℕ
 widestOf K t ws = max (widestA K t ws) (widestB K t (listA K t ws (t .inputs)))
 
 -- the answer of a run over lists of which the widest has so many: how many the last has, which the array holds, or that there is no room
-pub record HoldsLast (room widest : ℕ) (last : List Position) (out : List (List ℤ)) (found : Found) : Type 0 where
+pub record HoldsLast (room widest : ℕ) (last : List Position) (out : List ℕ) (found : Found) : Type 0 where
   pub answer : found ≡ cond (ltb room widest) Full (Number (length last))
   pub held : widest ≤ room → members out (length last) ≡ last
 
 -- the answer of the rounds from a first set: FULL, or how many rounds, and how many winners, which the array holds
-pub record Settles (K : ℕ) (t : Table) (X : Set) (room : ℕ) (out : List (List ℤ)) (settled : Settled) : Type 0 where
+pub record Settles (K : ℕ) (t : Table) (X : Set) (room : ℕ) (out : List ℕ) (settled : Settled) : Type 0 where
   pub answer : settled ≡ cond (full K t X room) FullAfter (After (rounds K t X) (length (winners K t X)))
   pub held : full K t X room ≡ false → members out (length (winners K t X)) ≡ map positionBytes (winners K t X)

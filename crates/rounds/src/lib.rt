@@ -1,7 +1,7 @@
 // The rounds: from the list of W(r) to that of W(r + 1) by each input and each output in turn, until
 // the list repeats.
 use counts::position;
-use lists::positions;
+use lists::words;
 use table::Table;
 use tops::Found;
 ghost use Prim.Native.Nat.{_≤_, _<_};
@@ -20,14 +20,7 @@ pub enum Settled {
 }
 
 // A(r, all inputs) from W(r): all safe positions, cut by each input.
-fn all_inputs(
-    table: Table,
-    k: usize,
-    room: usize,
-    w: &[[i8; 8]],
-    wn: usize,
-    a: &mut [[i8; 8]],
-) -> Found
+fn all_inputs(table: Table, k: usize, room: usize, w: &[u64], wn: usize, a: &mut [u64]) -> Found
     requires { ⌜ (k ≤ 7) × (wn ≤ 256) × (wn ≤ length (now w)) × (1 ≤ room) × (room ≤ 256) × (room ≤ length (now a)) ⌝ }
     ensures { λ r. ⌜ HoldsLast room (widestA k (tableIn table) (members (now (w .entry)) wn))
         (listA k (tableIn table) (members (now (w .entry)) wn) (tableIn table .inputs)) (now (a .exit)) r ⌝ }
@@ -48,14 +41,7 @@ fn all_inputs(
 }
 
 // B(r, all outputs) from A(r, all inputs): no position, widened by each output.
-fn all_outputs(
-    table: Table,
-    k: usize,
-    room: usize,
-    v: &[[i8; 8]],
-    vn: usize,
-    b: &mut [[i8; 8]],
-) -> Found
+fn all_outputs(table: Table, k: usize, room: usize, v: &[u64], vn: usize, b: &mut [u64]) -> Found
     requires { ⌜ (k ≤ 7) × (vn ≤ 256) × (vn ≤ length (now v)) × (room ≤ 256) × (room ≤ length (now b)) ⌝ }
     ensures { λ r. ⌜ HoldsLast room (widestB k (tableIn table) (members (now (v .entry)) vn))
         (listB k (tableIn table) (members (now (v .entry)) vn) (tableIn table .outputs)) (now (b .exit)) r ⌝ }
@@ -75,19 +61,12 @@ fn all_outputs(
 }
 
 // W(r + 1) from W(r).
-fn next_round(
-    table: Table,
-    k: usize,
-    room: usize,
-    w: &[[i8; 8]],
-    wn: usize,
-    next: &mut [[i8; 8]],
-) -> Found
+fn next_round(table: Table, k: usize, room: usize, w: &[u64], wn: usize, next: &mut [u64]) -> Found
     requires { ⌜ (k ≤ 7) × (wn ≤ 256) × (wn ≤ length (now w)) × (1 ≤ room) × (room ≤ 256) × (room ≤ length (now next)) ⌝ }
     ensures { λ r. ⌜ HoldsLast room (widestOf k (tableIn table) (members (now (w .entry)) wn))
         (nextList k (tableIn table) (members (now (w .entry)) wn)) (now (next .exit)) r ⌝ }
 {
-    let mut a = [[-1i8; 8]; 256];
+    let mut a = [0u64; 256];
     let found = all_inputs(table, k, room, w, wn, &mut a);
     let Found::Number(an) = found else {
         return Found::Full;
@@ -101,9 +80,9 @@ pub fn settle(
     table: Table,
     k: usize,
     room: usize,
-    first: &[[i8; 8]],
+    first: &[u64],
     n: usize,
-    out: &mut [[i8; 8]],
+    out: &mut [u64],
 ) -> Settled
     requires { ⌜ (k ≤ 7) × (n ≤ length (now first)) × (1 ≤ room) × (room ≤ 256) × (room ≤ length (now out))
         × FirstList k (tableIn table) (members (now first) n) ⌝ }
@@ -113,29 +92,29 @@ pub fn settle(
     if room < n {
         return Settled::Full;
     }
-    let mut w = [[-1i8; 8]; 256];
-    positions::copy(first, n, &mut w);
+    let mut w = [0u64; 256];
+    words::copy(first, n, &mut w);
     let mut wn = n;
     let mut rounds = 0;
     let settled = loop {
-        let mut next = [[-1i8; 8]; 256];
+        let mut next = [0u64; 256];
         let found = next_round(table, k, room, &w, wn, &mut next);
         let Found::Number(left) = found else {
             return Settled::Full;
         };
-        if positions::same(&w, wn, &next, left) {
+        if words::same(&w, wn, &next, left) {
             break w;
         }
         w = next;
         wn = left;
         rounds += 1;
     };
-    positions::copy(&settled, wn, out);
+    words::copy(&settled, wn, out);
     Settled::After(rounds, wn)
 }
 
 // The rounds from W(0) as all safe positions.
-pub fn settle_all(table: Table, k: usize, room: usize, out: &mut [[i8; 8]]) -> Settled
+pub fn settle_all(table: Table, k: usize, room: usize, out: &mut [u64]) -> Settled
     requires { ⌜ (k ≤ 7) × (1 ≤ room) × (room ≤ 256) × (room ≤ length (now out)) × Small (tableIn table) × (0 < tableIn table .outputs) ⌝ }
     ensures { λ r. ⌜ Settles k (tableIn table) (allSafe k (tableIn table .controllers)) room (now (out .exit)) r ⌝ }
 {

@@ -19,7 +19,7 @@ use Rattle.meaning.proofs.Steps.{below-of, below-refl, safe-at, safe-of, forwar
 use Rattle.meaning.proofs.Positions.{allSafe-length, allSafe-safe, allSafe-of}
 use Rattle.meaning.proofs.Rounds.{setA-of, setA-safe, setA-leads, setA-down, setB-of, setB-safe, setB-leads}
 use Rattle.meaning.proofs.Maximal.{member-maximal, member-in, maximal-top, members-ascend, climb, members-same}
-use Rattle.counts.specs.Cells.{lesserCounts}
+use Rattle.counts.specs.Halves.{lesserCounts}
 use Rattle.counts.proofs.Lesser.{lesser-length, lesser-left, lesser-right, lesser-of}
 use Rattle.tops.specs.Tops.{tops, meets}
 use Rattle.tops.proofs.Kept.{Covered, tops-only, tops-one}

@@ -9,7 +9,7 @@ use lib.ListN.{length}
 use Rattle.meaning.specs.Lists.{before, Ascending, none, more}
 use Rattle.meaning.specs.Counting.{Position, below}
 use Rattle.meaning.specs.Written.{positionBytes}
-use Rattle.counts.specs.Cells.{lesserCounts}
+use Rattle.counts.specs.Halves.{lesserCounts}
 use Rattle.counts.proofs.Wide.{wide-length, below-wide, before-wide}
 use Rattle.counts.proofs.Lesser.{wide-lesser}
 use Rattle.lists.proofs.Members.{Sized}

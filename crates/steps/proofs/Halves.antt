@@ -11,7 +11,7 @@ use Rattle.meaning.specs.Lists.{tab}
 use Rattle.meaning.specs.Table.{bit}
 use Rattle.meaning.proofs.Lists.{tab-at, tab-beyond}
 use Rattle.masks.proofs.Masks.{bit-none}
-use Rattle.counts.specs.Cells.{halfOf}
+use Rattle.counts.specs.Halves.{halfOf}
 use Rattle.counts.specs.declared.position.Half.{Half}
 use Rattle.table.specs.Packed.{edgeIn}
 

@@ -1,4 +1,4 @@
--- What a step of a position in eight counts asks.
+-- What a step of a position in a word asks.
 use Prim.Native.Nat.{ℕ, _≤_}
 use Rattle.meaning.specs.Table.{Table, Small}
 

@@ -8,7 +8,8 @@ ghost use lib.ListN.{getD};
 ghost use Rattle.meaning.specs.Lists.{tab};
 ghost use Rattle.meaning.specs.Table.{onOutput, onInput};
 ghost use Rattle.meaning.specs.Written.{positionBytes, afterRound};
-ghost use Rattle.counts.specs.Cells.{cells, halfOf};
+ghost use Rattle.counts.specs.Halves.{halfOf};
+ghost use Rattle.counts.specs.Words.{countsIn};
 ghost use Rattle.table.specs.Packed.{tableIn};
 ghost use Rattle.steps.specs.Bounded.{Bounded};
 
@@ -59,10 +60,10 @@ fn targets_on(targets: [u8; 64], letter: usize) -> [u8; 8]
 }
 
 // The position after a round: an output, then an input.
-pub fn after_round(table: Table, k: usize, p: &[i8; 8], output: usize, input: usize) -> [i8; 8]
+pub fn after_round(table: Table, k: usize, p: u64, output: usize, input: usize) -> u64
     requires { ⌜ Bounded k (tableIn table) ⌝ }
-    ensures { λ r. ⌜ cells r ≡ positionBytes (afterRound k (tableIn table) output input (cells (now (p .entry)))) ⌝ }
+    ensures { λ r. ⌜ countsIn r ≡ positionBytes (afterRound k (tableIn table) output input (countsIn p)) ⌝ }
 {
     let middle = position::forward(p, on_output(table, output), k);
-    position::forward(&middle, on_input(table, input), k)
+    position::forward(middle, on_input(table, input), k)
 }

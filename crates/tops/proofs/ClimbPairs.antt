@@ -6,7 +6,7 @@ use mathlib.Core.List.{List, [], _∷_, _++_, map, map-append, Memᴰ·of-map, L
 use Rattle.meaning.specs.Counting.{Position, below}
 use Rattle.meaning.proofs.Tests.{clash, refuted}
 use Rattle.meaning.proofs.Steps.{below-trans}
-use Rattle.counts.specs.Cells.{lesserCounts}
+use Rattle.counts.specs.Halves.{lesserCounts}
 use Rattle.counts.proofs.Lesser.{lesser-left, lesser-right, lesser-of}
 use Rattle.tops.specs.Tops.{meets}
 use Rattle.tops.specs.Candidates.{climbed}

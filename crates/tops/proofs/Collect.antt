@@ -11,15 +11,15 @@ use native.Mathlib.Omega.{arith}
 use lib.ListN.{length, set, length-append, length-set}
 use Rattle.meaning.specs.Counting.{Position, covered}
 use Rattle.meaning.proofs.Tests.{decided}
-use Rattle.counts.specs.Cells.{lesserCounts}
+use Rattle.counts.specs.Halves.{lesserCounts}
 use Rattle.counts.specs.Words.{countsIn}
-use Rattle.lists.specs.Members.{words}
-use Rattle.lists.proofs.Members.{words-length, words-store}
+use Rattle.lists.specs.Members.{members}
+use Rattle.lists.proofs.Members.{members-length, members-store}
 use Rattle.tops.specs.Tops.{meets, thinned}
-use Rattle.tops.specs.Held.{HoldsWords}
+use Rattle.tops.specs.Held.{Holds}
 use Rattle.tops.specs.Candidates.{climbed, keepOne, collected, rowsOf}
 use Rattle.tops.specs.declared.Found.the-variants.{Number, Full}
-use Rattle.tops.proofs.Held.{words-hold, held-full}
+use Rattle.tops.proofs.Held.{holds-number, holds-full}
 
 -- a run over two lists goes over one and then the other
 collected-append : (Fs l xs ys : List Position) → collected Fs l (xs ++ ys) ≡ collected Fs (collected Fs l xs) ys
@@ -59,30 +59,30 @@ rows-grow (x ∷ xs) ys l =
 pub record Collects (Fs l seen : List Position) (room : ℕ) (old out : List ℕ) (n : ℕ) : Type 0 where
   pub within : n ≤ room
   pub long : length out ≡ length old
-  pub holds : words out n ≡ collected Fs l seen
+  pub holds : members out n ≡ collected Fs l seen
 
 -- nothing seen yet
-pub collects-none : {Fs : List Position} {room : ℕ} (out : List ℕ) (n : ℕ) → n ≤ room → Collects Fs (words out n) [] room out out n
+pub collects-none : {Fs : List Position} {room : ℕ} (out : List ℕ) (n : ℕ) → n ≤ room → Collects Fs (members out n) [] room out out n
 unfolding collected
 collects-none out n h = record { within = h; long = refl; holds = refl }
 
 module _ {Fs l seen : List Position} {room : ℕ} {old out : List ℕ} {n : ℕ} (so-far : Collects Fs l seen room old out n) where
   -- all seen
-  pub collects-whole : room ≤ length old → HoldsWords room (collected Fs l seen) out (Number n)
-  collects-whole h = words-hold out (so-far .within) (omega (arith, so-far .within, so-far .long)) (so-far .holds)
+  pub collects-whole : room ≤ length old → Holds room (collected Fs l seen) out (Number n)
+  collects-whole h = holds-number out (so-far .within) (omega (arith, so-far .within, so-far .long)) (so-far .holds)
 
   -- from those kept on
-  onward : (rest : List Position) → collected Fs l (seen ++ rest) ≡ collected Fs (words out n) rest
+  onward : (rest : List Position) → collected Fs l (seen ++ rest) ≡ collected Fs (members out n) rest
   onward rest = collected-append Fs l seen rest ∙ ap (λ (k : List Position). collected Fs k rest) (sym (so-far .holds))
 
   -- one more candidate: a kept one covers it, or it is new
   module _ (F : Position) where
-    pub collects-pass : covered (words out n) F ≡ true → Collects Fs l (seen ++ F ∷ []) room old out n
+    pub collects-pass : covered (members out n) F ≡ true → Collects Fs l (seen ++ F ∷ []) room old out n
     unfolding collected
     collects-pass c =
-        record { within = so-far .within; long = so-far .long; holds = sym (onward (F ∷ []) ∙ keep-covered Fs (words out n) F c) }
+        record { within = so-far .within; long = so-far .long; holds = sym (onward (F ∷ []) ∙ keep-covered Fs (members out n) F c) }
 
-    module _ (new : covered (words out n) F ≡ false) (h : room ≤ length old) where
+    module _ (new : covered (members out n) F ≡ false) (h : room ≤ length old) where
       pub collects-put : (top : ℕ) → countsIn top ≡ climbed Fs F → n < room
           → Collects Fs l (seen ++ F ∷ []) room old (set out n top) (n + 1)
       unfolding collected
@@ -91,19 +91,19 @@ module _ {Fs l seen : List Position} {room : ℕ} {old out : List ℕ} {n : ℕ}
             within = omega arith;
             long = length-set out n top ∙ so-far .long;
             holds =
-                words-store out n top (omega (arith, so-far .long)) ∙ ap (λ (T : Position). words out n ++ T ∷ []) climb
-                ∙ sym (onward (F ∷ []) ∙ keep-new Fs (words out n) F new);
+                members-store out n top (omega (arith, so-far .long)) ∙ ap (λ (T : Position). members out n ++ T ∷ []) climb
+                ∙ sym (onward (F ∷ []) ∙ keep-new Fs (members out n) F new);
           }
 
-      pub collects-full : (rest : List Position) → n ≡ room → HoldsWords room (collected Fs l (seen ++ F ∷ rest)) out Full
+      pub collects-full : (rest : List Position) → n ≡ room → Holds room (collected Fs l (seen ++ F ∷ rest)) out Full
       unfolding collected
       collects-full rest e =
-          held-full
+          holds-full _
           (omega (
             arith,
             ap length (onward (F ∷ rest)),
-            collected-grows Fs (keepOne Fs (words out n) F) rest,
-            ap length (keep-new Fs (words out n) F new),
-            length-append (words out n) (climbed Fs F ∷ []),
-            words-length out n (omega (arith, so-far .long)),
+            collected-grows Fs (keepOne Fs (members out n) F) rest,
+            ap length (keep-new Fs (members out n) F new),
+            length-append (members out n) (climbed Fs F ∷ []),
+            members-length out n (omega (arith, so-far .long)),
           ))

@@ -6,12 +6,11 @@ use Prim.Native.Nat.{ℕ, _≤_, _<_}
 use native.Mathlib.Decide.{decLt}
 use native.Mathlib.Omega.{arith}
 use borrow.Author.Tests.{lt-ltb, le-ltb}
-use lib.IntN.{ℤ}
 use lib.ListN.{length}
 use Rattle.meaning.specs.Counting.{Position}
-use Rattle.lists.specs.Members.{members, words}
-use Rattle.lists.proofs.Members.{members-length, words-length}
-use Rattle.tops.specs.Held.{foundOf, Held, Holds, HoldsWords}
+use Rattle.lists.specs.Members.{members}
+use Rattle.lists.proofs.Members.{members-length}
+use Rattle.tops.specs.Held.{foundOf, Holds}
 use Rattle.tops.specs.declared.Found.{Found}
 use Rattle.tops.specs.declared.Found.the-variants.{Number, Full}
 
@@ -24,39 +23,28 @@ pub found-number : (room : ℕ) (l : List Position) → length l ≤ room → fo
 unfolding foundOf
 found-number room l h = rw (le-ltb room (length l) h)
 
-module _ {room : ℕ} {l : List Position} {first : ℕ → List Position} where
-  pub held-full : room < length l → Held room l first Full
-  held-full h = record { answer = sym (found-full room l h); held = λ k. absurd (omega arith) }
+module _ {room : ℕ} {l : List Position} (out : List ℕ) where
+  pub holds-full : room < length l → Holds room l out Full
+  holds-full h = record { answer = sym (found-full room l h); held = λ k. absurd (omega arith) }
 
-  pub held-number : {n : ℕ} → n ≤ room → length (first n) ≡ n → first n ≡ l → Held room l first (Number n)
-  held-number {n} h k e =
-      let s : length l ≡ n = sym (ap length e) ∙ k in
+  pub holds-number : {n : ℕ} → n ≤ room → n ≤ length out → members out n ≡ l → Holds room l out (Number n)
+  holds-number {n} h k e =
+      let s : length l ≡ n = sym (ap length e) ∙ members-length out n k in
       record { answer = sym (found-number room l (rw s h) ∙ ap Number s); held = λ _. rw s e }
 
-  module _ {found : Found} (h : Held room l first found) where
-    pub full-held : found ≡ Full → room < length l
-    full-held e = go (decLt room (length l))
-      where
-        go : Dec (room < length l) → room < length l
-        go (yes b) = b
-        go (no b) = absurd (let z : _≡_ {A = ℕ} 0 1 = cc (h .answer, e, found-number room l (omega arith)) in omega arith)
+module _ {room : ℕ} {l : List Position} {out : List ℕ} {found : Found} (h : Holds room l out found) where
+  pub full-held : found ≡ Full → room < length l
+  full-held e = go (decLt room (length l))
+    where
+      go : Dec (room < length l) → room < length l
+      go (yes b) = b
+      go (no b) = absurd (let z : _≡_ {A = ℕ} 0 1 = cc (h .answer, e, found-number room l (omega arith)) in omega arith)
 
-    pub number-held : {n : ℕ} → found ≡ Number n → (n ≤ room) × (first n ≡ l)
-    number-held {n} e = go (decLt room (length l))
-      where
-        go : Dec (room < length l) → (n ≤ room) × (first n ≡ l)
-        go (yes b) = absurd (let z : _≡_ {A = ℕ} 0 1 = cc (h .answer, e, found-full room l b) in omega arith)
-        go (no b) =
-            let s : length l ≡ n = cc (h .answer, e, found-number room l (omega arith)) in
-            (omega arith, rw s at (h .held (omega arith)))
-
--- an array of positions, or of words, that holds a list
-module _ {room : ℕ} {l : List Position} where
-  pub holds-full : (out : List (List ℤ)) → room < length l → Holds room l out Full
-  holds-full out = held-full
-
-  pub holds-number : (out : List (List ℤ)) {n : ℕ} → n ≤ room → n ≤ length out → members out n ≡ l → Holds room l out (Number n)
-  holds-number out {n} h k e = held-number h (members-length out n k) e
-
-  pub words-hold : (out : List ℕ) {n : ℕ} → n ≤ room → n ≤ length out → words out n ≡ l → HoldsWords room l out (Number n)
-  words-hold out {n} h k e = held-number h (words-length out n k) e
+  pub number-held : {n : ℕ} → found ≡ Number n → (n ≤ room) × (members out n ≡ l)
+  number-held {n} e = go (decLt room (length l))
+    where
+      go : Dec (room < length l) → (n ≤ room) × (members out n ≡ l)
+      go (yes b) = absurd (let z : _≡_ {A = ℕ} 0 1 = cc (h .answer, e, found-full room l b) in omega arith)
+      go (no b) =
+          let s : length l ≡ n = cc (h .answer, e, found-number room l (omega arith)) in
+          (omega arith, rw s at (h .held (omega arith)))

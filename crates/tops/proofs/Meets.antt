@@ -5,7 +5,7 @@ use mathlib.Core.List.{List, [], _∷_, _++_, map, flatMap, append-nil, append-a
 use Prim.Native.Nat.{ℕ}
 use Rattle.meaning.specs.Counting.{Position}
 use Rattle.meaning.proofs.Lists.{flatMap-member, member-flatMap}
-use Rattle.counts.specs.Cells.{lesserCounts}
+use Rattle.counts.specs.Halves.{lesserCounts}
 use Rattle.counts.proofs.Lesser.{lesser-length}
 use Rattle.lists.proofs.Members.{Sized}
 use Rattle.tops.specs.Tops.{meets}

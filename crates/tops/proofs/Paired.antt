@@ -15,7 +15,7 @@ use Rattle.meaning.proofs.Tests.{clash, decided}
 use Rattle.meaning.proofs.Lists.{any-at, keep-member, keep-holds, keep-of}
 use Rattle.meaning.proofs.Ascending.{keep-ascends}
 use Rattle.meaning.proofs.Steps.{below-refl, below-trans, below-antisym}
-use Rattle.counts.specs.Cells.{lesserCounts}
+use Rattle.counts.specs.Halves.{lesserCounts}
 use Rattle.counts.proofs.Lesser.{lesser-length, lesser-left, lesser-right, lesser-of}
 use Rattle.lists.specs.Sorted.{sorted}
 use Rattle.lists.proofs.Sorted.{reverse-member, member-reverse}

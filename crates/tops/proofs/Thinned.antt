@@ -14,7 +14,7 @@ use Rattle.meaning.specs.Counting.{Position, below, covered}
 use Rattle.meaning.proofs.Tests.{clash, decided, cond-cases}
 use Rattle.meaning.proofs.Lists.{any-at, any-of, keep-member, keep-holds, keep-of}
 use Rattle.meaning.proofs.Steps.{below-refl, below-trans}
-use Rattle.counts.specs.Cells.{lesserCounts}
+use Rattle.counts.specs.Halves.{lesserCounts}
 use Rattle.counts.proofs.Lesser.{lesser-mono}
 use Rattle.lists.specs.Members.{thinOne}
 use Rattle.lists.proofs.Members.{Sized}

@@ -4,7 +4,7 @@ use mathlib.Core.Bool.{Bool, cond, not}
 use mathlib.Core.List.{List, [], _∷_, _++_, map, reverse}
 use Rattle.meaning.specs.Lists.{keep}
 use Rattle.meaning.specs.Counting.{Position, below, covered}
-use Rattle.counts.specs.Cells.{lesserCounts}
+use Rattle.counts.specs.Halves.{lesserCounts}
 use Rattle.tops.specs.Tops.{meets, thinned}
 
 -- the position reached by one run over a list that takes each one above

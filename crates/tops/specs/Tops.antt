@@ -3,7 +3,7 @@ use mathlib.Core.Bool.{Bool, not, _||_}
 use mathlib.Core.List.{List, [], map, flatMap, foldr}
 use Rattle.meaning.specs.Lists.{keep, every}
 use Rattle.meaning.specs.Counting.{Position, below}
-use Rattle.counts.specs.Cells.{lesserCounts}
+use Rattle.counts.specs.Halves.{lesserCounts}
 use Rattle.lists.specs.Members.{thinOne}
 use Rattle.lists.specs.Sorted.{put}
 

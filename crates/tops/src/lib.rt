@@ -10,11 +10,11 @@ ghost use Prim.Native.Nat.{_≤_, _-_};
 ghost use lib.ListN.{length};
 ghost use Rattle.meaning.specs.Lists.{keep};
 ghost use Rattle.meaning.specs.Counting.{below, covered};
-ghost use Rattle.counts.specs.Cells.{lesserCounts};
+ghost use Rattle.counts.specs.Halves.{lesserCounts};
 ghost use Rattle.counts.specs.Words.{countsIn};
-ghost use Rattle.lists.specs.Members.{words as wordsOf};
+ghost use Rattle.lists.specs.Members.{members};
 ghost use Rattle.tops.specs.Tops.{meets, thinned};
-ghost use Rattle.tops.specs.Held.{HoldsWords};
+ghost use Rattle.tops.specs.Held.{Holds};
 ghost use Rattle.tops.specs.Candidates.{climbed, collected, uncovered, rowsOf, paired, united};
 
 // How many members a list came to, or that there were more than the room.
@@ -26,7 +26,7 @@ pub enum Found {
 // Those of the first n that no other of them is above, the last first.
 pub fn thin(set: &[u64], n: usize, out: &mut [u64]) -> usize
     requires { ⌜ (n ≤ length (now set)) × (n ≤ length (now out)) ⌝ }
-    ensures { λ r. ⌜ (r ≤ n) × (wordsOf (now (out .exit)) r ≡ thinned (wordsOf (now (set .entry)) n)) ⌝ }
+    ensures { λ r. ⌜ (r ≤ n) × (members (now (out .exit)) r ≡ thinned (members (now (set .entry)) n)) ⌝ }
 {
     let mut kept = 0;
     let mut i = n;
@@ -41,7 +41,7 @@ pub fn thin(set: &[u64], n: usize, out: &mut [u64]) -> usize
 fn row(x: u64, ys: &[u64], n: usize, out: &mut [u64]) -> usize
     requires { ⌜ (n ≤ length (now ys)) × (n ≤ length (now out)) ⌝ }
     ensures { λ r. ⌜ (r ≤ n)
-        × (wordsOf (now (out .exit)) r ≡ thinned (reverse (map (lesserCounts (countsIn x)) (wordsOf (now (ys .entry)) n)))) ⌝ }
+        × (members (now (out .exit)) r ≡ thinned (reverse (map (lesserCounts (countsIn x)) (members (now (ys .entry)) n)))) ⌝ }
 {
     let mut kept = 0;
     let mut j = 0;
@@ -63,8 +63,8 @@ fn part(
 ) -> usize
     requires { ⌜ (n ≤ length (now set)) × (m ≤ length (now others)) × (n ≤ length (now taken)) × (n ≤ length (now rest)) ⌝ }
     ensures { λ r. ⌜ (r ≤ n)
-        × (wordsOf (now (taken .exit)) r ≡ keep (covered (wordsOf (now (others .entry)) m)) (wordsOf (now (set .entry)) n))
-        × (wordsOf (now (rest .exit)) (n - r) ≡ keep (uncovered (wordsOf (now (others .entry)) m)) (wordsOf (now (set .entry)) n)) ⌝ }
+        × (members (now (taken .exit)) r ≡ keep (covered (members (now (others .entry)) m)) (members (now (set .entry)) n))
+        × (members (now (rest .exit)) (n - r) ≡ keep (uncovered (members (now (others .entry)) m)) (members (now (set .entry)) n)) ⌝ }
 {
     let mut held = 0;
     let mut i = 0;
@@ -90,7 +90,7 @@ fn climb_with(p: u64, x: u64, ys: &[u64]) -> u64
     let mut j = 0;
     while j < ys.len() {
         let y = ys[j];
-        if word::below(top, y) {
+        if meaning::at_most(word::compare(top, y)) {
             top = word::lesser(x, y);
         }
         j += 1;
@@ -106,7 +106,7 @@ fn climb_pairs(p: u64, xs: &[u64], ys: &[u64]) -> u64
     let mut i = 0;
     while i < xs.len() {
         let x = xs[i];
-        if word::below(top, x) {
+        if meaning::at_most(word::compare(top, x)) {
             top = climb_with(top, x, ys);
         }
         i += 1;
@@ -125,8 +125,8 @@ fn keep_row(
     room: usize,
 ) -> Found
     requires { ⌜ (n ≤ length (now row)) × (kept ≤ room) × (room ≤ length (now out)) ⌝ }
-    ensures { λ r. ⌜ HoldsWords room (collected (meets (map countsIn (now (xs .entry))) (map countsIn (now (ys .entry))))
-        (wordsOf (now (out .entry)) kept) (wordsOf (now (row .entry)) n)) (now (out .exit)) r ⌝ }
+    ensures { λ r. ⌜ Holds room (collected (meets (map countsIn (now (xs .entry))) (map countsIn (now (ys .entry))))
+        (members (now (out .entry)) kept) (members (now (row .entry)) n)) (now (out .exit)) r ⌝ }
 {
     let mut number = kept;
     let mut j = 0;
@@ -137,7 +137,7 @@ fn keep_row(
         let mut i = number;
         while 0 < i {
             i -= 1;
-            if word::below(p, out[i]) {
+            if meaning::at_most(word::compare(p, out[i])) {
                 continue 'candidates;
             }
         }
@@ -153,7 +153,7 @@ fn keep_row(
 // Goes over the first n, and adds to the `kept` positions of `out` those that none of them covers.
 fn keep_list(set: &[u64], n: usize, out: &mut [u64], kept: usize, room: usize) -> Found
     requires { ⌜ (n ≤ length (now set)) × (kept ≤ room) × (room ≤ length (now out)) ⌝ }
-    ensures { λ r. ⌜ HoldsWords room (collected [] (wordsOf (now (out .entry)) kept) (wordsOf (now (set .entry)) n)) (now (out .exit)) r ⌝ }
+    ensures { λ r. ⌜ Holds room (collected [] (members (now (out .entry)) kept) (members (now (set .entry)) n)) (now (out .exit)) r ⌝ }
 {
     let mut number = kept;
     let mut i = 0;
@@ -183,8 +183,8 @@ fn keep_rows(
     room: usize,
 ) -> Found
     requires { ⌜ (xn ≤ length (now xs)) × (yn ≤ length (now ys)) × (yn ≤ 256) × (kept ≤ room) × (room ≤ length (now out)) ⌝ }
-    ensures { λ r. ⌜ HoldsWords room (rowsOf (wordsOf (now (xs .entry)) xn) (wordsOf (now (ys .entry)) yn)
-        (wordsOf (now (out .entry)) kept)) (now (out .exit)) r ⌝ }
+    ensures { λ r. ⌜ Holds room (rowsOf (members (now (xs .entry)) xn) (members (now (ys .entry)) yn)
+        (members (now (out .entry)) kept)) (now (out .exit)) r ⌝ }
 {
     if xn == 0 {
         return Found::Number(kept);
@@ -210,7 +210,7 @@ fn keep_rows(
 pub fn pairs(set: &[u64], n: usize, backs: &[u64], m: usize, out: &mut [u64], room: usize) -> Found
     requires { ⌜ (n ≤ length (now set)) × (n ≤ 256) × (m ≤ length (now backs)) × (m ≤ 256)
         × (room ≤ length (now out)) × (256 ≤ length (now out)) ⌝ }
-    ensures { λ r. ⌜ HoldsWords room (paired (wordsOf (now (set .entry)) n) (wordsOf (now (backs .entry)) m)) (now (out .exit)) r ⌝ }
+    ensures { λ r. ⌜ Holds room (paired (members (now (set .entry)) n) (members (now (backs .entry)) m)) (now (out .exit)) r ⌝ }
 {
     let mut xs = [0u64; 256];
     let whole = part(set, n, backs, m, out, &mut xs);
@@ -237,7 +237,7 @@ pub fn together(
     room: usize,
 ) -> Found
     requires { ⌜ (n ≤ length (now set)) × (n ≤ 256) × (m ≤ length (now backs)) × (room ≤ length (now out)) × (256 ≤ length (now out)) ⌝ }
-    ensures { λ r. ⌜ HoldsWords room (united (wordsOf (now (set .entry)) n) (wordsOf (now (backs .entry)) m)) (now (out .exit)) r ⌝ }
+    ensures { λ r. ⌜ Holds room (united (members (now (set .entry)) n) (members (now (backs .entry)) m)) (now (out .exit)) r ⌝ }
 {
     let mut dropped = [0u64; 256];
     let gone = part(set, n, backs, m, &mut dropped, out);

@@ -4,20 +4,19 @@ use mathlib.Core.List.{List, [], _∷_, flatMap}
 use Prim.Native.Nat.{ℕ, suc, _+_, _-_, _*_, _/_, _%_, _≤_, _<_}
 use native.Mathlib.Decide.{decLt}
 use native.Mathlib.Omega.{arith}
-use lib.IntN.{ℤ}
 use lib.ListN.{length, getD, List·getD-append}
 use lib.Seq.{getD-append-add}
 use Rattle.meaning.specs.Counting.{Position, count}
 use Rattle.meaning.specs.Written.{positionBytes, winnersBytes}
 use Rattle.meaning.proofs.Lists.{getD-inside}
-use Rattle.counts.specs.Cells.{cells}
+use Rattle.counts.specs.Words.{countsIn}
 use Rattle.counts.proofs.Wide.{wide-length, wide-at}
 use Rattle.lists.specs.Members.{members}
 use Rattle.lists.proofs.Members.{members-length, members-at}
 
 -- member i of the first n of an array
-pub member-cells : (all : List (List ℤ)) (i n : ℕ) → i < n → n ≤ length all → getD (members all n) i [] ≡ cells (getD all i [])
-member-cells all i n l h = getD-inside (members all n) i [] (cells []) (omega (arith, members-length all n h)) ∙ members-at all i n l
+pub member-counts : (all : List ℕ) (i n : ℕ) → i < n → n ≤ length all → getD (members all n) i [] ≡ countsIn (getD all i 0)
+member-counts all i n l h = getD-inside (members all n) i [] (countsIn 0) (omega (arith, members-length all n h)) ∙ members-at all i n l
 
 -- byte b of the winners
 pub bytes-at : (ws : List Position) (b : ℕ) → b < 8 * length ws → getD (winnersBytes ws) b 0 ≡ count (getD ws (b / 8) []) (b % 8)

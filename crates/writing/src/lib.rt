@@ -1,7 +1,8 @@
 // The winners' bytes and the controller's rows, from the list of winners.
 use counts::count;
 use counts::position;
-use lists::positions;
+use counts::word;
+use lists::words;
 use table::Table;
 ghost use mathlib.Core.Path.{_≡_};
 ghost use mathlib.Core.List.{[], _∷_};
@@ -10,34 +11,32 @@ ghost use lib.ListN.{length};
 ghost use Rattle.meaning.specs.Lists.{written};
 ghost use Rattle.meaning.specs.Written.{winnersBytes, covering as coveringOf, outputOf, rowBytes, rowsOfState, leadsBack, rowsFrom};
 ghost use Rattle.meaning.specs.Counting.{covered};
-ghost use Rattle.counts.specs.Cells.{cells};
+ghost use Rattle.counts.specs.Words.{countsIn};
 ghost use Rattle.table.specs.Packed.{tableIn};
 ghost use Rattle.steps.specs.Bounded.{Bounded};
 ghost use Rattle.lists.specs.Members.{members};
 ghost use Rattle.writing.specs.Playable.{stateAt, Playable};
 
 // The winners: 8 bytes a position, each holding a count one higher.
-pub fn write_winners(list: &[[i8; 8]], n: usize, winners: &mut [u8])
+pub fn write_winners(list: &[u64], n: usize, winners: &mut [u8])
     requires { ⌜ (n ≤ length (now list)) × (8 * n ≤ length (now winners)) ⌝ }
     ensures { λ _. ⌜ now (winners .exit) ≡ written (winnersBytes (members (now (list .entry)) n)) (now (winners .entry)) ⌝ }
 {
     let mut b = 0;
     while b < 8 * n {
-        let p = list[b / 8];
-        winners[b] = count::to_byte(p[b % 8]);
+        winners[b] = count::to_byte(position::at(list[b / 8], b % 8));
         b += 1;
     }
 }
 
 // The place of the first winner that the position is below, or their number.
-pub fn covering(list: &[[i8; 8]], n: usize, p: &[i8; 8]) -> usize
+pub fn covering(list: &[u64], n: usize, p: u64) -> usize
     requires { ⌜ n ≤ length (now list) ⌝ }
-    ensures { λ r. ⌜ r ≡ coveringOf (members (now (list .entry)) n) (cells (now (p .entry))) ⌝ }
+    ensures { λ r. ⌜ r ≡ coveringOf (members (now (list .entry)) n) (countsIn p) ⌝ }
 {
     let mut i = 0;
     while i < n {
-        let m = list[i];
-        if position::below(p, &m) {
+        if meaning::at_most(word::compare(p, list[i])) {
             return i;
         }
         i += 1;
@@ -46,21 +45,14 @@ pub fn covering(list: &[[i8; 8]], n: usize, p: &[i8; 8]) -> usize
 }
 
 // Whether every input leads back into the set that the list covers, after the letter as output.
-fn leads_back(
-    table: Table,
-    k: usize,
-    list: &[[i8; 8]],
-    n: usize,
-    p: &[i8; 8],
-    letter: usize,
-) -> bool
-    requires { ⌜ Bounded k (tableIn table) ⌝ }
-    ensures { λ r. ⌜ r ≡ leadsBack k (tableIn table) (covered (members (now (list .entry)) n)) (cells (now (p .entry))) letter ⌝ }
+fn leads_back(table: Table, k: usize, list: &[u64], n: usize, p: u64, letter: usize) -> bool
+    requires { ⌜ Bounded k (tableIn table) × (n ≤ length (now list)) ⌝ }
+    ensures { λ r. ⌜ r ≡ leadsBack k (tableIn table) (covered (members (now (list .entry)) n)) (countsIn p) letter ⌝ }
 {
     let mut i = 0;
     while i < table.inputs {
         let after = steps::after_round(table, k, p, letter, i);
-        if !positions::covers(list, n, &after) {
+        if !words::covers(list, n, after) {
             return false;
         }
         i += 1;
@@ -69,9 +61,9 @@ fn leads_back(
 }
 
 // The smallest letter from which every input leads back, or the number of outputs.
-pub fn output_of(table: Table, k: usize, list: &[[i8; 8]], n: usize, p: &[i8; 8]) -> usize
-    requires { ⌜ Bounded k (tableIn table) ⌝ }
-    ensures { λ r. ⌜ r ≡ outputOf k (tableIn table) (covered (members (now (list .entry)) n)) (cells (now (p .entry))) ⌝ }
+pub fn output_of(table: Table, k: usize, list: &[u64], n: usize, p: u64) -> usize
+    requires { ⌜ Bounded k (tableIn table) × (n ≤ length (now list)) ⌝ }
+    ensures { λ r. ⌜ r ≡ outputOf k (tableIn table) (covered (members (now (list .entry)) n)) (countsIn p) ⌝ }
 {
     let mut letter = 0;
     while letter < table.outputs {
@@ -95,14 +87,7 @@ fn write_row(state: u8, output: u8, input: u8, next: u8, controller: &mut [u8])
 }
 
 // The rows of one state, inputs ascending, at the front of the buffer.
-fn write_state(
-    table: Table,
-    k: usize,
-    list: &[[i8; 8]],
-    n: usize,
-    state: usize,
-    controller: &mut [u8],
-)
+fn write_state(table: Table, k: usize, list: &[u64], n: usize, state: usize, controller: &mut [u8])
     requires { ⌜ (n ≤ length (now list)) × (state < n) × Playable k (tableIn table) (members (now list) n)
         × (table .inputs * 4 ≤ length (now controller)) ⌝ }
     ensures { λ _. ⌜ now (controller .exit)
@@ -110,11 +95,11 @@ fn write_state(
         (now (list .entry)) n) state)) (now (controller .entry)) ⌝ }
 {
     let p = list[state];
-    let output = output_of(table, k, list, n, &p);
+    let output = output_of(table, k, list, n, p);
     let mut i = 0;
     while i < table.inputs {
-        let after = steps::after_round(table, k, &p, output, i);
-        let next = covering(list, n, &after);
+        let after = steps::after_round(table, k, p, output, i);
+        let next = covering(list, n, after);
         let at = i * 4;
         write_row(
             state as u8,
@@ -141,7 +126,7 @@ fn state_at(start: usize, b: usize) -> usize
 pub fn write_rows(
     table: Table,
     k: usize,
-    list: &[[i8; 8]],
+    list: &[u64],
     n: usize,
     start: usize,
     controller: &mut [u8],

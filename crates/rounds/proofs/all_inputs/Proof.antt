@@ -13,7 +13,7 @@ use Rattle.lists.specs.Members.{members}
 use Rattle.lists.proofs.Members.{members-store}
 use Rattle.tops.specs.Held.{Holds}
 use Rattle.sets.specs.Engine.{listA}
-use Rattle.sets.proofs.Rounded.{ready-low, listA-ready}
+use Rattle.sets.proofs.Rounded.{listA-ready}
 use Rattle.rounds.specs.Rounds.{widestA}
 use Rattle.rounds.proofs.Runs.{Runs, runs-none, runs-more, runs-whole, runs-full}
 use Rattle.rounds.proofs.all_inputs.Statement.{statement}
@@ -27,14 +27,14 @@ abbrev μ-loop : tie.MeasureT-loop
 μ-loop table k room w wn a₀ n₀ input₀ a n input = table .inputs - input
 
 -- the first store leaves the array as long as it was
-as-long : (c : tie.After-brim Inv-loop μ-loop) → length (set (c .before .args .a .now) 0 (c .brim .result))
-    ≡ length (c .before .args .a .now)
-as-long c = length-set (c .before .args .a .now) 0 (c .brim .result)
+as-long : (c : tie.After-brim Inv-loop μ-loop) → length (set (c .before .before .before .args .a .now) 0 (c .brim .result))
+    ≡ length (c .before .before .before .args .a .now)
+as-long c = length-set (c .before .before .before .args .a .now) 0 (c .brim .result)
 
 -- one input more: the list that is cut is the next one
 cut-list : (c : tie.After-cut Inv-loop μ-loop) →
     let at = c .before .before .before .before .before in
-    let given = at .before .before .args in
+    let given = at .before .before .before .before .args in
     Holds (given .room) (listA (given .k) (tableIn (given .table)) (members (given .w .now) (given .wn)) (suc (at .loop .input)))
     (c .cut .last .1 .1 .1 .1 .0) (c .cut .result)
 unfolding listA
@@ -45,13 +45,13 @@ cut-list c =
 brim-requires : tie.Need-brim-requires Inv-loop μ-loop
 brim-requires c κs = search needs
 
-slice-set-from-a : tie.Need-slice-set-from-a Inv-loop μ-loop
-slice-set-from-a c = search needs
+slice-write-a : tie.Need-slice-write-a Inv-loop μ-loop
+slice-write-a c = search needs
 
 loop-holds : tie.Need-loop-holds Inv-loop μ-loop
 unfolding members listA tableIn
 loop-holds c =
-    let given = c .before .args in
+    let given = c .before .before .before .args in
     let stored = members-store (given .a .now) 0 (c .brim .result) (omega arith) in
     (zero-le, runs-none _ (omega arith) (omega (arith, as-long c)) refl (stored ∙ ap (λ (F : Position). F ∷ []) (c .brim .ensures)))
 
@@ -64,7 +64,7 @@ add-input c = search needs
 cut-requires : tie.Need-cut-requires Inv-loop μ-loop
 cut-requires c κs =
     let at = c .before .before .before .before in
-    let given = at .before .before .args in
+    let given = at .before .before .before .before .args in
     let ready = listA-ready (given .k) (tableIn (given .table)) (members (given .w .now) (given .wn)) (at .loop .input) in
     let runs = at .loop .inv .1 in (
       (
@@ -76,7 +76,7 @@ cut-requires c κs =
         omega arith,
         omega (arith, runs .long, as-long (at .before)),
       ),
-      (rw (runs .holds) (ready-low (given .k) _ (omega arith) ready), rw (runs .holds) (ready .own)),
+      rw (runs .holds) (ready .own),
     )
 
 enum-known-found : tie.Need-enum-known-found Inv-loop μ-loop
@@ -87,16 +87,16 @@ enum-told c = search needs
 
 same-length : tie.Need-same-length Inv-loop μ-loop
 same-length c =
-    let called = c .before .before .before in
+    let called = c .before .before .before .before in
     let at = called .before .before .before .before .before in
     called .cut .kept .1 .1 .1 .1 .0 ∙ at .loop .inv .1 .long ∙ as-long (at .before)
 
 returns : tie.Need-returns Inv-loop μ-loop
 unfolding tableIn widestA
 returns c =
-    let called = c .before .before .before in
+    let called = c .before .before .before .before in
     let at = called .before .before .before .before .before in
-    let given = at .before .before .args in
+    let given = at .before .before .before .before .args in
     runs-full (listA (given .k) (tableIn (given .table)) (members (given .w .now) (given .wn))) (cut-list called) (c .enum-told .given .1)
     (omega arith)
 
@@ -106,7 +106,7 @@ loop-less c = search needs
 loop-again : tie.Need-loop-again Inv-loop μ-loop
 unfolding tableIn
 loop-again c =
-    let called = c .before .before .before .before in
+    let called = c .before .before .before .before .before in
     let at = called .before .before .before .before .before in (
       omega arith,
       rw (add-one (at .loop .input)) (runs-more _ (at .loop .inv .1) (cut-list called) (c .before .found .given .1) (called .cut .kept
@@ -122,7 +122,7 @@ returns-2 : tie.Need-returns-2 Inv-loop μ-loop
 unfolding tableIn widestA
 returns-2 c =
     let at = c .before .before in
-    let e : at .loop .input ≡ at .before .before .args .table .inputs = omega arith in
+    let e : at .loop .input ≡ at .before .before .before .before .args .table .inputs = omega arith in
     rw e at (runs-whole _ (at .loop .inv .1) (omega (arith, as-long (at .before))))
 
 pub all-inputs-spec : {M : Type 1} → statement M
@@ -132,7 +132,7 @@ all-inputs-spec =
     Inv-loop
     μ-loop
     brim-requires
-    slice-set-from-a
+    slice-write-a
     loop-holds
     on-input-requires
     add-input

@@ -10,7 +10,7 @@ use Rattle.table.specs.Packed.{tableIn}
 use Rattle.lists.specs.Members.{members}
 use Rattle.tops.specs.Held.{Holds}
 use Rattle.sets.specs.Engine.{listB}
-use Rattle.sets.proofs.Rounded.{ready-low, listB-ready}
+use Rattle.sets.proofs.Rounded.{listB-ready}
 use Rattle.rounds.specs.Rounds.{widestB}
 use Rattle.rounds.proofs.Runs.{Runs, runs-none, runs-more, runs-whole, runs-full}
 use Rattle.rounds.proofs.all_outputs.Statement.{statement}
@@ -26,7 +26,7 @@ abbrev μ-loop : tie.MeasureT-loop
 -- one output more: the list that is widened is the next one
 widened : (c : tie.After-widen Inv-loop μ-loop) →
     let at = c .before .before .before .before .before in
-    let given = at .before .args in
+    let given = at .before .before .before .args in
     Holds (given .room) (listB (given .k) (tableIn (given .table)) (members (given .v .now) (given .vn)) (suc (at .loop .output)))
     (c .widen .last .1 .1 .1 .1 .0) (c .widen .result)
 unfolding listB
@@ -47,7 +47,7 @@ add-output c = search needs
 widen-requires : tie.Need-widen-requires Inv-loop μ-loop
 widen-requires c κs =
     let at = c .before .before .before .before in
-    let given = at .before .args in
+    let given = at .before .before .before .args in
     let ready = listB-ready (given .k) (tableIn (given .table)) (members (given .v .now) (given .vn)) (at .loop .output) in
     let runs = at .loop .inv .1 in (
       (
@@ -59,7 +59,7 @@ widen-requires c κs =
         omega arith,
         omega (arith, runs .long),
       ),
-      (rw (runs .holds) (ready-low (given .k) _ (omega arith) ready), rw (runs .holds) (ready .own)),
+      rw (runs .holds) (ready .own),
     )
 
 enum-known-found : tie.Need-enum-known-found Inv-loop μ-loop
@@ -74,9 +74,9 @@ same-length c = search needs
 returns : tie.Need-returns Inv-loop μ-loop
 unfolding tableIn widestB
 returns c =
-    let called = c .before .before .before in
+    let called = c .before .before .before .before in
     let at = called .before .before .before .before .before in
-    let given = at .before .args in
+    let given = at .before .before .before .args in
     runs-full (listB (given .k) (tableIn (given .table)) (members (given .v .now) (given .vn))) (widened called) (c .enum-told .given .1)
     (omega arith)
 
@@ -86,7 +86,7 @@ loop-less c = search needs
 loop-again : tie.Need-loop-again Inv-loop μ-loop
 unfolding tableIn
 loop-again c =
-    let called = c .before .before .before .before in
+    let called = c .before .before .before .before .before in
     let at = called .before .before .before .before .before in (
       omega arith,
       rw (add-one (at .loop .output))
@@ -100,7 +100,7 @@ returns-2 : tie.Need-returns-2 Inv-loop μ-loop
 unfolding tableIn widestB
 returns-2 c =
     let at = c .before .before in
-    let e : at .loop .output ≡ at .before .args .table .outputs = omega arith in
+    let e : at .loop .output ≡ at .before .before .before .args .table .outputs = omega arith in
     rw e at (runs-whole _ (at .loop .inv .1) (omega arith))
 
 pub all-outputs-spec : {M : Type 1} → statement M

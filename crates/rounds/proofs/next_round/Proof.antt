@@ -35,7 +35,7 @@ slice-aggregate-all-outputs c = search needs
 all-outputs-requires : tie.Need-all-outputs-requires
 all-outputs-requires c κs =
     let called = c .before .before .before .before .before .before in
-    let given = called .before .before .args in
+    let given = called .before .before .before .before .args in
     let held = number-last (called .all-inputs .ensures) (c .before .before .before .found .given .1) in
     let few = inputs-within (given .k) (tableIn (given .table)) (members (given .w .now) (given .wn)) in
     let kept = called .all-inputs .kept .1 .1 .1 .1 .1 .0 in
@@ -47,9 +47,10 @@ same-length c = search needs
 returns-2 : tie.Need-returns-2
 unfolding nextList widestOf
 returns-2 c =
-    let called = c .before .before .before .before .before .before .before .before in
-    let held = number-last (called .all-inputs .ensures) (c .before .before .before .before .before .found .given .1) in
-    last-after (rw (held .2) at (c .before .all-outputs .ensures)) (held .0)
+    let found = c .before .before .before .before .before .before in
+    let called = found .before .before .before in
+    let held = number-last (called .all-inputs .ensures) (found .found .given .1) in
+    last-after (rw (held .2) at (c .before .before .all-outputs .ensures)) (held .0)
 
 pub next-round-spec : {M : Type 1} → statement M
 next-round-spec =

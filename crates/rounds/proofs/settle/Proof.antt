@@ -11,7 +11,7 @@ use Rattle.meaning.proofs.Tests.{clash}
 use Rattle.meaning.proofs.Rounds.{rounds-few}
 use Rattle.table.specs.Packed.{tableIn}
 use Rattle.lists.specs.Members.{members}
-use Rattle.lists.proofs.Members.{members-length, same-lists}
+use Rattle.lists.proofs.Members.{members-length}
 use Rattle.sets.specs.Engine.{nextList}
 use Rattle.sets.proofs.Engine.{Running}
 use Rattle.rounds.specs.Rounds.{coveredBy, widestOf}
@@ -33,7 +33,7 @@ abbrev μ-loop : tie.MeasureT-loop
 round-held : (c : tie.After-found Inv-loop μ-loop) →
     let called = c .before .before .before in
     let at = called .before .before .before in
-    let given = at .before .before .before .before .before .args in
+    let given = at .before .before .before .before .before .before .before .args in
     let ws = members (at .loop .w) (at .loop .wn) in
     let left = c .found .given .0 .0 in
     (widestOf (given .k) (tableIn (given .table)) ws ≤ given .room) × (left ≤ given .room)
@@ -41,7 +41,7 @@ round-held : (c : tie.After-found Inv-loop μ-loop) →
 round-held c =
     let called = c .before .before .before in
     let at = called .before .before .before in
-    let given = at .before .before .before .before .before .args in
+    let given = at .before .before .before .before .before .before .before .args in
     let held = number-last (called .next-round .ensures) (c .found .given .1) in (
       held .0,
       omega (arith, held .0, held .1, next-within (given .k) (tableIn (given .table)) (members (at .loop .w) (at .loop .wn))),
@@ -50,8 +50,8 @@ round-held c =
 
 returns : tie.Need-returns Inv-loop μ-loop
 returns c =
-    let given = c .before .args in
-    settles-first-full (c .before .pre .5) (omega (arith, members-length (given .first .now) (given .n) (omega arith)))
+    let given = c .before .before .before .args in
+    settles-first-full (c .before .before .before .pre .5) (omega (arith, members-length (given .first .now) (given .n) (omega arith)))
 
 slice-aggregate-copy : tie.Need-slice-aggregate-copy Inv-loop μ-loop
 slice-aggregate-copy c = search needs
@@ -61,7 +61,7 @@ copy-requires c κs = search needs
 
 loop-holds : tie.Need-loop-holds Inv-loop μ-loop
 loop-holds c =
-    let start = c .before .before .before .before in
+    let start = c .before .before .before .before .before .before in
     let given = start .args in
     let number = members-length (given .first .now) (given .n) (omega arith) in
     (search needs, omega arith, rw (c .before .copy .ensures) (settles-start (start .pre .5) (omega (arith, number))))
@@ -85,7 +85,7 @@ returns-2 : tie.Need-returns-2 Inv-loop μ-loop
 returns-2 c =
     let called = c .before .before .before in
     let at = called .before .before .before in
-    let start = at .before .before .before .before .before in
+    let start = at .before .before .before .before .before .before .before in
     settles-round-full (start .pre .5) (at .loop .inv .2) (full-last (called .next-round .ensures) (c .enum-told .given .1))
 
 slice-aggregate-same : tie.Need-slice-aggregate-same Inv-loop μ-loop
@@ -103,7 +103,7 @@ add-rounds : tie.Need-add-rounds Inv-loop μ-loop
 add-rounds c =
     let found = c .before .before .before .before .before in
     let at = found .before .before .before .before .before .before in
-    let start = at .before .before .before .before .before in
+    let start = at .before .before .before .before .before .before .before in
     let given = start .args in
     let list = start .pre .5 in
     omega (
@@ -116,19 +116,19 @@ loop-less : tie.Need-loop-less Inv-loop μ-loop
 loop-less c =
     let found = c .before .before .before .before .before in
     let at = found .before .before .before .before .before .before in
-    let start = at .before .before .before .before .before in
+    let start = at .before .before .before .before .before .before .before in
     omega (arith, settles-bound (start .pre .5) (at .loop .inv .2))
 
 loop-again : tie.Need-loop-again Inv-loop μ-loop
 loop-again c =
     let found = c .before .before .before .before .before in
     let at = found .before .before .before .before .before .before in
-    let start = at .before .before .before .before .before in
+    let start = at .before .before .before .before .before .before .before in
     let given = start .args in
     let held = round-held found in
     let differs : (nextList (given .k) (tableIn (given .table)) (members (at .loop .w) (at .loop .wn))
     ≡ members (at .loop .w) (at .loop .wn)) → ⊥ =
-    λ e. clash _ (same-lists _ _ .1 (sym (held .2 ∙ e))) (sym (c .before .same .ensures) ∙ c .if2 .left) in (
+    λ e. clash _ (c .before .same .ensures .1 (sym (held .2 ∙ e))) (c .if2 .left) in (
       found .before .before .before .next-round .kept .1 .1 .1 .1 .1 .0,
       held .1,
       rw (add-one (at .loop .rounds), held .2) (settles-next (start .pre .5) (at .loop .inv .2) (held .0) differs),
@@ -141,7 +141,7 @@ copy-requires-2 : tie.Need-copy-requires-2 Inv-loop μ-loop
 copy-requires-2 c κs =
     let found = c .before .before .before .before .before .before .before in
     let at = found .before .before .before .before .before .before in
-    let start = at .before .before .before .before .before in
+    let start = at .before .before .before .before .before .before .before in
     (omega arith, omega (arith, at .loop .inv .1, start .pre .4))
 
 same-length : tie.Need-same-length Inv-loop μ-loop
@@ -149,14 +149,14 @@ same-length c = search needs
 
 returns-3 : tie.Need-returns-3 Inv-loop μ-loop
 returns-3 c =
-    let same = c .before .before .before .before in
+    let same = c .before .before .before .before .before in
     let found = same .before .before .before .before .before in
     let at = found .before .before .before .before .before .before in
-    let start = at .before .before .before .before .before in
+    let start = at .before .before .before .before .before .before .before in
     let held = round-held found in
-    let repeats = sym (held .2) ∙ sym (same-lists _ _ .0 (sym (same .before .same .ensures) ∙ same .if2 .taken)) in
+    let repeats = sym (held .2) ∙ sym (same .before .same .ensures .0 (same .if2 .taken)) in
     settles-repeat (start .pre .5) (at .loop .inv .2) (held .0) repeats (sym (members-length (at .loop .w) (at .loop .wn) (omega arith)))
-    (c .before .copy2 .ensures)
+    (c .before .before .copy2 .ensures)
 
 pub settle-spec : {M : Type 1} → statement M
 settle-spec =

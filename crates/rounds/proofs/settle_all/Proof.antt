@@ -16,7 +16,7 @@ use Rattle.rounds.proofs.settle_all.Tie as tie
 
 -- the list is that of the brim
 brim-listed : (c : tie.After-brim) →
-    let given = c .before .args in
+    let given = c .before .before .args in
     members (c .brim .result ∷ []) 1 ≡ positionBytes (brim (given .k) (tableIn (given .table) .controllers)) ∷ []
 unfolding members tableIn
 brim-listed c = ap (λ (F : Position). F ∷ []) (c .brim .ensures)
@@ -29,7 +29,7 @@ slice-aggregate-settle c = search needs
 
 settle-requires : tie.Need-settle-requires
 settle-requires c κs =
-    let start = c .before .before .before in
+    let start = c .before .before .before .before in
     let given = start .args in (
       omega arith,
       omega arith,
@@ -44,13 +44,14 @@ same-length c = search needs
 
 returns : tie.Need-returns
 returns c =
-    let start = c .before .before .before .before .before in
+    let brimmed = c .before .before .before .before .before in
+    let start = brimmed .before .before in
     let given = start .args in
-    let first : coveredBy (tableIn (given .table) .controllers) (members (c .before .before .before .before .brim .result ∷ []) 1)
+    let first : coveredBy (tableIn (given .table) .controllers) (members (brimmed .brim .result ∷ []) 1)
     ≡ allSafe (given .k) (tableIn (given .table) .controllers) =
-    ap (coveredBy (tableIn (given .table) .controllers)) (brim-listed (c .before .before .before .before))
+    ap (coveredBy (tableIn (given .table) .controllers)) (brim-listed brimmed)
     ∙ brim-covered (given .k) (tableIn (given .table)) (start .pre .4) in
-    rw first at (c .before .settle .ensures)
+    rw first at (c .before .before .settle .ensures)
 
 pub settle-all-spec : {M : Type 1} → statement M
 settle-all-spec =

@@ -4,7 +4,7 @@ use borrow.Author.Needs.{needs}
 use Rattle.meaning.specs.Table.{Half}
 use Rattle.meaning.specs.Counting.{forward}
 use Rattle.meaning.specs.Written.{positionBytes}
-use Rattle.counts.specs.Cells.{cells}
+use Rattle.counts.specs.Words.{countsIn}
 use Rattle.table.specs.Packed.{tableIn}
 use Rattle.steps.proofs.Stepped.{round-stepped}
 use Rattle.steps.proofs.after_round.Statement.{statement}
@@ -24,12 +24,12 @@ forward-requires-2 c κs = search needs
 
 returns : tie.Need-returns
 returns c =
-    let half = c .before .before .before in
+    let half = c .before .before in
     let start = half .before .before in
     let given = start .args in
-    let F = cells (given .p .now) in
-    let middle = cells (half .forward .result) in
-    round-stepped (given .k) (tableIn (given .table)) (start .pre) (given .output) (given .input) F middle (cells (c .forward2 .result))
+    let F = countsIn (given .p) in
+    let middle = countsIn (half .forward .result) in
+    round-stepped (given .k) (tableIn (given .table)) (start .pre) (given .output) (given .input) F middle (countsIn (c .forward2 .result))
     (half .forward .ensures ∙ ap (λ (h : Half). positionBytes (forward (given .k) h F)) (half .before .on-output .ensures))
     (c .forward2 .ensures ∙ ap (λ (h : Half). positionBytes (forward (given .k) h middle)) (c .before .on-input .ensures))
 

@@ -7,8 +7,8 @@ use native.Mathlib.Omega.{arith}
 use borrow.Author.Needs.{needs}
 use lib.ListN.{getD}
 use Rattle.counts.specs.Words.{countsIn}
-use Rattle.lists.specs.Members.{words}
-use Rattle.lists.proofs.Members.{words-more, words-after, words-split}
+use Rattle.lists.specs.Members.{members}
+use Rattle.lists.proofs.Members.{members-more, members-after, members-split}
 use Rattle.tops.specs.Candidates.{climbed}
 use Rattle.tops.proofs.Collect.{Collects, collects-none, collects-whole, collects-pass, collects-put, collects-full}
 use Rattle.tops.proofs.keep_list.Statement.{statement}
@@ -16,13 +16,13 @@ use Rattle.tops.proofs.keep_list.Tie as tie
 
 abbrev Inv-loop : tie.InvT-loop
 Inv-loop set n out₀ kept room number₀ i₀ out number i =
-    (i ≤ n) × Collects [] (words out₀ kept) (words set i) room out₀ out number
+    (i ≤ n) × Collects [] (members out₀ kept) (members set i) room out₀ out number
 
 abbrev μ-loop : tie.MeasureT-loop
 μ-loop set n out₀ kept room number₀ i₀ out number i = n - i
 
 loop-holds : tie.Need-loop-holds Inv-loop μ-loop
-unfolding words
+unfolding members
 loop-holds c =
     let given = c .before .before .args in
     (zero-le, collects-none (given .out .now) (given .kept) (omega arith))
@@ -50,7 +50,7 @@ loop-again c =
     let all = at .before .before .before .args .set .now in
     let i = at .loop .i in (
       omega arith,
-      rw (words-more all i (omega arith))
+      rw (members-more all i (omega arith))
           (collects-pass (at .loop .inv .1) (countsIn (getD all i 0)) (sym (called .covers .ensures) ∙ c .if1 .taken)),
     )
 
@@ -65,9 +65,9 @@ returns c =
     let given = at .before .before .before .args in
     let all = given .set .now in
     let i = at .loop .i in
-    rw (words-split all i (given .n) (turn .loop-test .taken) (omega arith))
+    rw (members-split all i (given .n) (turn .loop-test .taken) (omega arith))
     (collects-full (at .loop .inv .1) (countsIn (getD all i 0)) (sym (called .covers .ensures) ∙ c .before .if1 .left) (omega arith)
-    (words-after all i (given .n)) (c .if2 .taken))
+    (members-after all i (given .n)) (c .if2 .taken))
 
 mul-out : tie.Need-mul-out Inv-loop μ-loop
 mul-out c = search needs
@@ -91,7 +91,7 @@ loop-again-2 c =
     let i = at .loop .i in
     let p = getD all i 0 in (
       omega arith,
-      rw (words-more all i (omega arith))
+      rw (members-more all i (omega arith))
           (collects-put (at .loop .inv .1) (countsIn p) (sym (called .covers .ensures) ∙ c .before .if1 .left) (omega arith) p refl
           (omega arith)),
     )

@@ -12,8 +12,9 @@ use lib.ListN.{getD}
 use Rattle.meaning.specs.Lists.{any}
 use Rattle.meaning.specs.Counting.{below, covered}
 use Rattle.counts.specs.Words.{countsIn}
-use Rattle.lists.specs.Members.{words}
-use Rattle.lists.proofs.Members.{words-more, words-last, words-after, words-split}
+use Rattle.counts.proofs.Compared.{at-most-words}
+use Rattle.lists.specs.Members.{members}
+use Rattle.lists.proofs.Members.{members-more, members-last, members-after, members-split}
 use Rattle.lists.proofs.OneMore.{any-past, one-here}
 use Rattle.tops.specs.Tops.{meets}
 use Rattle.tops.proofs.Collect.{Collects, collects-none, collects-whole, collects-pass, collects-put, collects-full}
@@ -22,14 +23,14 @@ use Rattle.tops.proofs.keep_row.Tie as tie
 
 abbrev Inv-loop : tie.InvT-loop
 Inv-loop row n xs ys out kept room number j p i₀ i =
-    (i ≤ number) × (covered (words out number) (countsIn p) ≡ covered (words out i) (countsIn p))
+    (i ≤ number) × (covered (members out number) (countsIn p) ≡ covered (members out i) (countsIn p))
 
 abbrev μ-loop : tie.MeasureT-loop
 μ-loop row n xs ys out kept room number j p i₀ i = i
 
 abbrev Inv-candidates : tie.InvT-candidates
 Inv-candidates row n xs ys out₀ kept room number₀ j₀ out number j =
-    (j ≤ n) × Collects (meets (map countsIn xs) (map countsIn ys)) (words out₀ kept) (words row j) room out₀ out number
+    (j ≤ n) × Collects (meets (map countsIn xs) (map countsIn ys)) (members out₀ kept) (members row j) room out₀ out number
 
 abbrev μ-candidates : tie.MeasureT-candidates
 μ-candidates row n xs ys out₀ kept room number₀ j₀ out number j = n - j
@@ -38,15 +39,15 @@ abbrev μ-candidates : tie.MeasureT-candidates
 scanned : (c : tie.After-loop Inv-loop μ-loop Inv-candidates μ-candidates) →
     let outer = c .before .before .before .before in
     let all = outer .before .before .before .before .before .args .row .now in
-    covered (words (outer .candidates .out) (outer .candidates .number)) (countsIn (getD all (outer .candidates .j) 0)) ≡ false
-unfolding words
+    covered (members (outer .candidates .out) (outer .candidates .number)) (countsIn (getD all (outer .candidates .j) 0)) ≡ false
+unfolding members
 scanned c =
     let at = c .before in
     let e : at .loop .i ≡ 0 = omega arith in
     rw e at (at .loop .inv .1)
 
 candidates-holds : tie.Need-candidates-holds Inv-loop μ-loop Inv-candidates μ-candidates
-unfolding words
+unfolding members
 candidates-holds c =
     let given = c .before .before .before .before .args in
     (zero-le, collects-none (given .out .now) (given .kept) (omega arith))
@@ -66,14 +67,17 @@ loop-holds c = (le-refl (c .before .before .candidates .number), refl)
 sub-i : tie.Need-sub-i Inv-loop μ-loop Inv-candidates μ-candidates
 sub-i c = search needs
 
-mul-below : tie.Need-mul-below Inv-loop μ-loop Inv-candidates μ-candidates
-mul-below c = search needs
+mul-compare : tie.Need-mul-compare Inv-loop μ-loop Inv-candidates μ-candidates
+mul-compare c = search needs
 
-slice-read-below : tie.Need-slice-read-below Inv-loop μ-loop Inv-candidates μ-candidates
-slice-read-below c = search needs
+slice-read-compare : tie.Need-slice-read-compare Inv-loop μ-loop Inv-candidates μ-candidates
+slice-read-compare c = search needs
 
-below-requires : tie.Need-below-requires Inv-loop μ-loop Inv-candidates μ-candidates
-below-requires c κs = search needs
+compare-requires : tie.Need-compare-requires Inv-loop μ-loop Inv-candidates μ-candidates
+compare-requires c κs = search needs
+
+at-most-requires : tie.Need-at-most-requires Inv-loop μ-loop Inv-candidates μ-candidates
+at-most-requires c κs = search needs
 
 candidates-less : tie.Need-candidates-less Inv-loop μ-loop Inv-candidates μ-candidates
 candidates-less c = search needs
@@ -81,18 +85,19 @@ candidates-less c = search needs
 candidates-again : tie.Need-candidates-again Inv-loop μ-loop Inv-candidates μ-candidates
 candidates-again c =
     let called = c .before in
-    let turn = called .before .before in
+    let turn = called .before .before .before in
     let at = turn .before in
     let outer = at .before .before .before in
     let all = outer .before .before .before .before .before .args .row .now in
     let out = outer .candidates .out in
     let i = at .loop .i in
+    let told = at-most-words _ (getD out (i - 1) 0) (called .at-most .ensures) (called .before .compare .ensures) in
     let F = countsIn (getD all (outer .candidates .j) 0) in
-    let above : covered (words out i) F ≡ true =
-    rw (words-last out i (turn .loop-test .taken) (omega arith))
-    (one-here (below F) (words out (i - 1)) (countsIn (getD out (i - 1) 0)) [] (sym (called .below .ensures) ∙ c .if1 .taken)) in (
+    let above : covered (members out i) F ≡ true =
+    rw (members-last out i (turn .loop-test .taken) (omega arith))
+    (one-here (below F) (members out (i - 1)) (countsIn (getD out (i - 1) 0)) [] (sym told ∙ c .if1 .taken)) in (
       omega arith,
-      rw (words-more all (outer .candidates .j) (omega arith)) (collects-pass (outer .candidates .inv .1) F (at .loop .inv .1 ∙ above)),
+      rw (members-more all (outer .candidates .j) (omega arith)) (collects-pass (outer .candidates .inv .1) F (at .loop .inv .1 ∙ above)),
     )
 
 loop-less : tie.Need-loop-less Inv-loop μ-loop Inv-candidates μ-candidates
@@ -101,15 +106,16 @@ loop-less c = search needs
 loop-again : tie.Need-loop-again Inv-loop μ-loop Inv-candidates μ-candidates
 loop-again c =
     let called = c .before in
-    let turn = called .before .before in
+    let turn = called .before .before .before in
     let at = turn .before in
     let outer = at .before .before .before in
     let out = outer .candidates .out in
     let i = at .loop .i in
+    let told = at-most-words _ (getD out (i - 1) 0) (called .at-most .ensures) (called .before .compare .ensures) in
     let F = countsIn (getD (outer .before .before .before .before .before .args .row .now) (outer .candidates .j) 0) in (
       omega arith,
-      at .loop .inv .1 ∙ ap (any (below F)) (words-last out i (turn .loop-test .taken) (omega arith))
-          ∙ any-past (below F) (words out (i - 1)) (countsIn (getD out (i - 1) 0)) (sym (called .below .ensures) ∙ c .if1 .left),
+      at .loop .inv .1 ∙ ap (any (below F)) (members-last out i (turn .loop-test .taken) (omega arith))
+          ∙ any-past (below F) (members out (i - 1)) (countsIn (getD out (i - 1) 0)) (sym told ∙ c .if1 .left),
     )
 
 same-length : tie.Need-same-length Inv-loop μ-loop Inv-candidates μ-candidates
@@ -122,9 +128,9 @@ returns c =
     let given = outer .before .before .before .before .before .args in
     let all = given .row .now in
     let j = outer .candidates .j in
-    rw (words-split all j (given .n) (chosen .candidates-test .taken) (omega arith))
+    rw (members-split all j (given .n) (chosen .candidates-test .taken) (omega arith))
     (collects-full (outer .candidates .inv .1) (countsIn (getD all j 0)) (scanned (c .before)) (omega arith)
-    (words-after all j (given .n)) (c .if2 .taken))
+    (members-after all j (given .n)) (c .if2 .taken))
 
 climb-pairs-requires : tie.Need-climb-pairs-requires Inv-loop μ-loop Inv-candidates μ-candidates
 climb-pairs-requires c κs = search needs
@@ -148,7 +154,7 @@ candidates-again-2 c =
     let all = outer .before .before .before .before .before .args .row .now in
     let j = outer .candidates .j in (
       omega arith,
-      rw (words-more all j (omega arith))
+      rw (members-more all j (omega arith))
           (collects-put (outer .candidates .inv .1) (countsIn (getD all j 0)) (scanned left) (omega arith) (c .climb-pairs .result)
           (c .climb-pairs .ensures)
           (omega arith)),
@@ -178,9 +184,10 @@ keep-row-spec =
     add-j
     loop-holds
     sub-i
-    mul-below
-    slice-read-below
-    below-requires
+    mul-compare
+    slice-read-compare
+    compare-requires
+    at-most-requires
     candidates-less
     candidates-again
     loop-less

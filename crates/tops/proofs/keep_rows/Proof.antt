@@ -11,11 +11,11 @@ use lib.ListN.{length, getD, take, drop}
 use lib.Seq.{length-take-le, drop-cons}
 use Rattle.meaning.specs.Counting.{Position}
 use Rattle.counts.specs.Words.{countsIn}
-use Rattle.lists.specs.Members.{words}
+use Rattle.lists.specs.Members.{members}
 use Rattle.tops.specs.Tops.{meets}
-use Rattle.tops.specs.Held.{HoldsWords}
+use Rattle.tops.specs.Held.{Holds}
 use Rattle.tops.specs.Candidates.{collected, rowsOf}
-use Rattle.tops.proofs.Held.{held-full, full-held, number-held, words-hold}
+use Rattle.tops.proofs.Held.{holds-full, full-held, number-held, holds-number}
 use Rattle.tops.proofs.Collect.{rows-grow}
 use Rattle.tops.proofs.keep_rows.Statement.{statement}
 use Rattle.tops.proofs.keep_rows.Tie as tie
@@ -32,7 +32,7 @@ words-front all i n l h =
 abbrev Inv-loop : tie.InvT-loop
 Inv-loop xs xn ys yn out₀ kept room tops₀ number₀ i₀ out tops number i =
     (i ≤ xn) × (number ≤ room) × (length out ≡ length out₀) × (length tops ≡ 256)
-    × (rowsOf (words-from xs i xn) (words ys yn) (words out number) ≡ rowsOf (words xs xn) (words ys yn) (words out₀ kept))
+    × (rowsOf (words-from xs i xn) (members ys yn) (members out number) ≡ rowsOf (members xs xn) (members ys yn) (members out₀ kept))
 
 abbrev μ-loop : tie.MeasureT-loop
 μ-loop xs xn ys yn out₀ kept room tops₀ number₀ i₀ out tops number i = xn - i
@@ -51,27 +51,28 @@ module _ (c : tie.After-keep-row Inv-loop μ-loop) where
       let rowed = c .before .before .before .before .before .before in
       let at = rowed .before .before .before .before in
       let given = at .before .before .before .before .before .args in
-      words (given .ys .now) (given .yn)
+      members (given .ys .now) (given .yn)
 
   abbrev with-row : List Position
   with-row =
       let rowed = c .before .before .before .before .before .before in
       let at = rowed .before .before .before .before in
-      collected (meets later others) (words (at .loop .out) (at .loop .number)) (words (rowed .row .last .1 .1 .1 .0) (rowed .row .result))
+      collected (meets later others) (members (at .loop .out) (at .loop .number))
+      (members (rowed .row .last .1 .1 .1 .0) (rowed .row .result))
 
   -- the array holds that, and the rows after it come from that to what all come to
   row-held :
       let rowed = c .before .before .before .before .before .before in
       let at = rowed .before .before .before .before in
-      HoldsWords (at .before .before .before .before .before .args .room) with-row (c .keep-row .last .1 .1 .1 .1 .0) (c .keep-row .result)
-  unfolding words
+      Holds (at .before .before .before .before .before .args .room) with-row (c .keep-row .last .1 .1 .1 .1 .0) (c .keep-row .result)
+  unfolding members
   row-held = c .keep-row .ensures
 
   stepped :
       let rowed = c .before .before .before .before .before .before in
       let at = rowed .before .before .before .before in
       let given = at .before .before .before .before .before .args in
-      rowsOf later others with-row ≡ rowsOf (words (given .xs .now) (given .xn)) others (words (given .out .now) (given .kept))
+      rowsOf later others with-row ≡ rowsOf (members (given .xs .now) (given .xn)) others (members (given .out .now) (given .kept))
   unfolding rowsOf
   stepped =
       let rowed = c .before .before .before .before .before .before in
@@ -79,19 +80,19 @@ module _ (c : tie.After-keep-row Inv-loop μ-loop) where
       let at = turn .before in
       let given = at .before .before .before .before .before .args in
       rw (rowed .row .ensures .1)
-      (ap (λ (l : List Position). rowsOf l others (words (at .loop .out) (at .loop .number)))
+      (ap (λ (l : List Position). rowsOf l others (members (at .loop .out) (at .loop .number)))
       (sym (words-front (given .xs .now) (at .loop .i) (given .xn) (turn .loop-test .taken) (omega arith)))
       ∙ at .loop .inv .4)
 
 returns : tie.Need-returns Inv-loop μ-loop
-unfolding words rowsOf
+unfolding members rowsOf
 returns c =
     let given = c .before .before .before .before .args in
     let none : given .xn ≡ 0 = omega (arith, c .if1 .taken) in
-    words-hold (given .out .now) (omega arith) (omega arith) (rw none refl)
+    holds-number (given .out .now) (omega arith) (omega arith) (rw none refl)
 
 loop-holds : tie.Need-loop-holds Inv-loop μ-loop
-unfolding words
+unfolding members
 loop-holds c =
     let given = c .before .before .before .before .args in
     let e : given .xn - 0 ≡ given .xn = omega arith in
@@ -148,7 +149,7 @@ same-length c = search needs
 returns-2 : tie.Need-returns-2 Inv-loop μ-loop
 returns-2 c =
     let called = c .before .before .before .before in
-    held-full
+    holds-full _
     (omega (
       arith,
       full-held {l = with-row called} (row-held called) (c .enum-told .given .1),
@@ -181,7 +182,7 @@ returns-3 c =
     let at = c .before in
     let given = at .before .before .before .before .before .args in
     let e : given .xn - at .loop .i ≡ 0 = omega arith in
-    words-hold (at .loop .out) (at .loop .inv .1) (omega arith) (rw e at (at .loop .inv .4))
+    holds-number (at .loop .out) (at .loop .inv .1) (omega arith) (rw e at (at .loop .inv .4))
 
 pub keep-rows-spec : {M : Type 1} → statement M
 keep-rows-spec =

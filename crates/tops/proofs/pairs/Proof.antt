@@ -7,11 +7,11 @@ use borrow.Author.Needs.{needs}
 use lib.ListN.{length}
 use Rattle.meaning.specs.Lists.{keep}
 use Rattle.meaning.specs.Counting.{covered}
-use Rattle.lists.specs.Members.{words}
-use Rattle.lists.proofs.Members.{words-length}
-use Rattle.tops.specs.Held.{HoldsWords}
+use Rattle.lists.specs.Members.{members}
+use Rattle.lists.proofs.Members.{members-length}
+use Rattle.tops.specs.Held.{Holds}
 use Rattle.tops.specs.Candidates.{collected, uncovered, paired}
-use Rattle.tops.proofs.Held.{held-full, full-held, number-held}
+use Rattle.tops.proofs.Held.{holds-full, full-held, number-held}
 use Rattle.tops.proofs.Collect.{collected-grows, rows-grow}
 use Rattle.tops.proofs.pairs.Statement.{statement}
 use Rattle.tops.proofs.pairs.Tie as tie
@@ -21,9 +21,9 @@ whole-kept : (c : tie.After-keep-list) →
     let second = c .before .before .before .before .before in
     let first = second .before .before .before .before .before .before .before in
     let given = first .before .before .before .before .before .before .args in
-    let A = words (given .set .now) (given .n) in
-    let E = words (given .backs .now) (given .m) in
-    HoldsWords (given .room) (collected [] (keep (covered E) A) (keep (covered A) E)) (c .keep-list .last .1 .1 .0) (c .keep-list .result)
+    let A = members (given .set .now) (given .n) in
+    let E = members (given .backs .now) (given .m) in
+    Holds (given .room) (collected [] (keep (covered E) A) (keep (covered A) E)) (c .keep-list .last .1 .1 .0) (c .keep-list .result)
 whole-kept c =
     let second = c .before .before .before .before .before in
     let first = second .before .before .before .before .before .before .before in
@@ -43,15 +43,15 @@ unfolding paired
 returns c =
     let called = c .before .before .before .before in
     let given = called .before .before .before .before .before .before .args in
-    let A = words (given .set .now) (given .n) in
-    let E = words (given .backs .now) (given .m) in
-    held-full
+    let A = members (given .set .now) (given .n) in
+    let E = members (given .backs .now) (given .m) in
+    holds-full _
     (omega (
       arith,
       rows-grow (keep (uncovered E) A) (keep (uncovered A) E) (collected [] (keep (covered E) A) (keep (covered A) E)),
       collected-grows [] (keep (covered E) A) (keep (covered A) E),
       ap length {y = keep (covered E) A} (called .part .ensures .1),
-      words-length (called .part .last .1 .1 .1 .1 .0) (called .part .result) (omega (arith, called .part .kept .1 .1 .1 .1 .0)),
+      members-length (called .part .last .1 .1 .1 .1 .0) (called .part .result) (omega (arith, called .part .kept .1 .1 .1 .1 .0)),
     ))
 
 slice-aggregate-part-2 : tie.Need-slice-aggregate-part-2
@@ -85,9 +85,9 @@ returns-2 c =
     let second = called .before .before .before .before .before in
     let first = second .before .before .before .before .before .before .before in
     let given = first .before .before .before .before .before .before .args in
-    let A = words (given .set .now) (given .n) in
-    let E = words (given .backs .now) (given .m) in
-    held-full
+    let A = members (given .set .now) (given .n) in
+    let E = members (given .backs .now) (given .m) in
+    holds-full _
     (omega (
       arith,
       full-held (whole-kept called) (c .enum-told .given .1),

@@ -11,8 +11,8 @@ use lib.ListN.{length, getD, length-set}
 use Rattle.meaning.specs.Lists.{keep}
 use Rattle.meaning.specs.Counting.{covered}
 use Rattle.counts.specs.Words.{countsIn}
-use Rattle.lists.specs.Members.{words}
-use Rattle.lists.proofs.Members.{words-more, words-store}
+use Rattle.lists.specs.Members.{members}
+use Rattle.lists.proofs.Members.{members-more, members-store}
 use Rattle.lists.proofs.OneMore.{keep-more, keep-past}
 use Rattle.tops.specs.Candidates.{uncovered}
 use Rattle.tops.proofs.part.Statement.{statement}
@@ -21,14 +21,14 @@ use Rattle.tops.proofs.part.Tie as tie
 abbrev Inv-loop : tie.InvT-loop
 Inv-loop set n others m taken₀ rest₀ held₀ i₀ taken rest held i =
     (i ≤ n) × (held ≤ i) × (length taken ≡ length taken₀) × (length rest ≡ length rest₀)
-    × (words taken held ≡ keep (covered (words others m)) (words set i))
-    × (words rest (i - held) ≡ keep (uncovered (words others m)) (words set i))
+    × (members taken held ≡ keep (covered (members others m)) (members set i))
+    × (members rest (i - held) ≡ keep (uncovered (members others m)) (members set i))
 
 abbrev μ-loop : tie.MeasureT-loop
 μ-loop set n others m taken₀ rest₀ held₀ i₀ taken rest held i = n - i
 
 loop-holds : tie.Need-loop-holds Inv-loop μ-loop
-unfolding words
+unfolding members
 loop-holds c = (zero-le, zero-le, refl, refl, refl, refl)
 
 mul-p : tie.Need-mul-p Inv-loop μ-loop
@@ -71,7 +71,7 @@ loop-again c =
     let at = turn .before in
     let given = at .before .before .before .before .before .args in
     let all = given .set .now in
-    let others = words (given .others .now) (given .m) in
+    let others = members (given .others .now) (given .m) in
     let i = at .loop .i in
     let held = at .loop .held in
     let p = getD all i 0 in
@@ -87,12 +87,12 @@ loop-again c =
       rw (
         w .1,
         w .3,
-        words-store (at .loop .taken) held p (omega arith),
+        members-store (at .loop .taken) held p (omega arith),
         inv .4,
-        words-more all i (omega arith),
-        keep-more (covered others) (words all i) (countsIn p) test,
+        members-more all i (omega arith),
+        keep-more (covered others) (members all i) (countsIn p) test,
       ),
-      rw (w .2, w .3, e, inv .5, words-more all i (omega arith), keep-past (uncovered others) (words all i) (countsIn p) (ap not test)),
+      rw (w .2, w .3, e, inv .5, members-more all i (omega arith), keep-past (uncovered others) (members all i) (countsIn p) (ap not test)),
     ))
     (λ w.
     let test : covered others (countsIn p) ≡ false = sym (called .covers .ensures) ∙ w .0 .left in
@@ -101,15 +101,15 @@ loop-again c =
       rw (w .3) (omega arith),
       rw (w .1) (inv .2),
       rw (w .2, length-set (at .loop .rest) (i - held) p) (inv .3),
-      rw (w .1, w .3, inv .4, words-more all i (omega arith), keep-past (covered others) (words all i) (countsIn p) test),
+      rw (w .1, w .3, inv .4, members-more all i (omega arith), keep-past (covered others) (members all i) (countsIn p) test),
       rw (
         w .2,
         w .3,
         e,
-        words-store (at .loop .rest) (i - held) p (omega arith),
+        members-store (at .loop .rest) (i - held) p (omega arith),
         inv .5,
-        words-more all i (omega arith),
-        keep-more (uncovered others) (words all i) (countsIn p) (ap not test),
+        members-more all i (omega arith),
+        keep-more (uncovered others) (members all i) (countsIn p) (ap not test),
       ),
     ))
     (c .if1 .came)

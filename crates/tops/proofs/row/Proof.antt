@@ -7,23 +7,24 @@ use native.Mathlib.Omega.{arith}
 use borrow.Author.Needs.{needs}
 use lib.ListN.{length, getD}
 use Rattle.meaning.specs.Counting.{Position}
-use Rattle.counts.specs.Cells.{lesserCounts}
+use Rattle.counts.specs.Halves.{lesserCounts}
 use Rattle.counts.specs.Words.{countsIn}
-use Rattle.lists.specs.Members.{words}
-use Rattle.lists.proofs.Members.{words-more}
+use Rattle.lists.specs.Members.{members}
+use Rattle.lists.proofs.Members.{members-more}
 use Rattle.tops.specs.Tops.{thinned}
 use Rattle.tops.proofs.row.Statement.{statement}
 use Rattle.tops.proofs.row.Tie as tie
 
 abbrev Inv-loop : tie.InvT-loop
 Inv-loop x ys n out₀ kept₀ j₀ out kept j =
-    (j ≤ n) × (kept ≤ j) × (length out ≡ length out₀) × (words out kept ≡ thinned (reverse (map (lesserCounts (countsIn x)) (words ys j))))
+    (j ≤ n) × (kept ≤ j) × (length out ≡ length out₀)
+    × (members out kept ≡ thinned (reverse (map (lesserCounts (countsIn x)) (members ys j))))
 
 abbrev μ-loop : tie.MeasureT-loop
 μ-loop x ys n out₀ kept₀ j₀ out kept j = n - j
 
 loop-holds : tie.Need-loop-holds Inv-loop μ-loop
-unfolding words thinned
+unfolding members thinned
 loop-holds c = (zero-le, zero-le, refl, refl)
 
 mul-lesser : tie.Need-mul-lesser Inv-loop μ-loop
@@ -63,9 +64,9 @@ loop-again c =
         called .keep-top .ensures .1,
         made .lesser .ensures,
         at .loop .inv .3,
-        words-more all j (omega arith),
-        map-append (lesserCounts (countsIn (given .x))) (words all j) (y ∷ []),
-        reverse-append (pairs (words all j)) (pairs (y ∷ [])),
+        members-more all j (omega arith),
+        map-append (lesserCounts (countsIn (given .x))) (members all j) (y ∷ []),
+        reverse-append (pairs (members all j)) (pairs (y ∷ [])),
       ),
     )
 

@@ -7,21 +7,21 @@ use native.Mathlib.Omega.{arith}
 use borrow.Author.Needs.{needs}
 use lib.ListN.{length, getD}
 use Rattle.counts.specs.Words.{countsIn}
-use Rattle.lists.specs.Members.{thinOne, words}
-use Rattle.lists.proofs.Members.{words-last}
+use Rattle.lists.specs.Members.{thinOne, members}
+use Rattle.lists.proofs.Members.{members-last}
 use Rattle.tops.specs.Tops.{thinned}
 use Rattle.tops.proofs.thin.Statement.{statement}
 use Rattle.tops.proofs.thin.Tie as tie
 
 abbrev Inv-loop : tie.InvT-loop
 Inv-loop set n out₀ kept₀ i₀ out kept i =
-    (kept + i ≤ n) × (length out ≡ length out₀) × (foldr thinOne (words out kept) (words set i) ≡ thinned (words set n))
+    (kept + i ≤ n) × (length out ≡ length out₀) × (foldr thinOne (members out kept) (members set i) ≡ thinned (members set n))
 
 abbrev μ-loop : tie.MeasureT-loop
 μ-loop set n out₀ kept₀ i₀ out kept i = i
 
 loop-holds : tie.Need-loop-holds Inv-loop μ-loop
-unfolding words thinned
+unfolding members thinned
 loop-holds c = (omega arith, refl, refl)
 
 sub-i : tie.Need-sub-i Inv-loop μ-loop
@@ -46,19 +46,19 @@ loop-again c =
     let at = turn .before in
     let all = at .before .before .before .args .set .now in
     let i = at .loop .i in
-    let kept = words (at .loop .out) (at .loop .kept) in (
+    let kept = members (at .loop .out) (at .loop .kept) in (
       omega (arith, called .keep-top .ensures .0),
       called .keep-top .kept .0 ∙ at .loop .inv .1,
       rw (called .keep-top .ensures .1)
-          (sym (foldr-append thinOne kept (words all (i - 1)) (countsIn (getD all (i - 1) 0) ∷ []))
-          ∙ ap (foldr thinOne kept) (sym (words-last all i (turn .loop-test .taken) (omega arith))) ∙ at .loop .inv .2),
+          (sym (foldr-append thinOne kept (members all (i - 1)) (countsIn (getD all (i - 1) 0) ∷ []))
+          ∙ ap (foldr thinOne kept) (sym (members-last all i (turn .loop-test .taken) (omega arith))) ∙ at .loop .inv .2),
     )
 
 same-length : tie.Need-same-length Inv-loop μ-loop
 same-length c = search needs
 
 returns : tie.Need-returns Inv-loop μ-loop
-unfolding words
+unfolding members
 returns c =
     let at = c .before in
     let e : at .loop .i ≡ 0 = omega arith in

@@ -7,10 +7,10 @@ use native.Mathlib.Omega.{arith}
 use borrow.Author.Needs.{needs}
 use lib.ListN.{length}
 use Rattle.meaning.specs.Lists.{keep}
-use Rattle.lists.specs.Members.{words}
-use Rattle.lists.proofs.Members.{words-length}
+use Rattle.lists.specs.Members.{members}
+use Rattle.lists.proofs.Members.{members-length}
 use Rattle.tops.specs.Candidates.{uncovered, united}
-use Rattle.tops.proofs.Held.{held-full}
+use Rattle.tops.proofs.Held.{holds-full}
 use Rattle.tops.proofs.Collect.{collected-grows}
 use Rattle.tops.proofs.together.Statement.{statement}
 use Rattle.tops.proofs.together.Tie as tie
@@ -32,14 +32,14 @@ unfolding united
 returns c =
     let called = c .before .before .before .before in
     let given = called .before .before .before .before .before .before .args in
-    let E = words (given .backs .now) (given .m) in
-    let left = keep (uncovered E) (words (given .set .now) (given .n)) in
-    held-full
+    let E = members (given .backs .now) (given .m) in
+    let left = keep (uncovered E) (members (given .set .now) (given .n)) in
+    holds-full _
     (omega (
       arith,
       collected-grows [] left E,
       ap length {y = left} (called .part .ensures .2),
-      words-length (called .part .last .1 .1 .1 .1 .1 .0) (given .n - called .part .result)
+      members-length (called .part .last .1 .1 .1 .1 .1 .0) (given .n - called .part .result)
           (omega (arith, called .part .kept .1 .1 .1 .1 .1 .0)),
     ))
 

@@ -9,7 +9,7 @@ use borrow.Author.Count.{below-none, below-more}
 use Rattle.meaning.specs.Written.{outputOf, leadsBack}
 use Rattle.meaning.specs.Counting.{covered}
 use Rattle.meaning.proofs.Tests.{first-is}
-use Rattle.counts.specs.Cells.{cells}
+use Rattle.counts.specs.Words.{countsIn}
 use Rattle.table.specs.Packed.{tableIn}
 use Rattle.meaning.proofs.Searches.{first-none}
 use Rattle.lists.specs.Members.{members}
@@ -18,7 +18,7 @@ use Rattle.writing.proofs.output_of.Tie as tie
 
 abbrev Inv-loop : tie.InvT-loop
 Inv-loop table k list n p letter₀ letter = (letter ≤ table .outputs)
-    × ((o : ℕ) → o < letter → leadsBack k (tableIn table) (covered (members list n)) (cells p) o ≡ false)
+    × ((o : ℕ) → o < letter → leadsBack k (tableIn table) (covered (members list n)) (countsIn p) o ≡ false)
 
 abbrev μ-loop : tie.MeasureT-loop
 μ-loop table k list n p letter₀ letter = table .outputs - letter
@@ -27,14 +27,14 @@ loop-holds : tie.Need-loop-holds Inv-loop μ-loop
 loop-holds c = (zero-le, below-none _)
 
 leads-back-requires : tie.Need-leads-back-requires Inv-loop μ-loop
-leads-back-requires c κs = c .before .before .before .pre
+leads-back-requires c κs = c .before .before .before .before .pre
 
 returns : tie.Need-returns Inv-loop μ-loop
 unfolding outputOf leadsBack tableIn
 returns c =
     let turn = c .before .before in
     let at = turn .before .before in
-    sym (first-is (at .before .args .table .outputs) _ (at .loop .letter) (turn .if1 .taken)
+    sym (first-is (at .before .before .args .table .outputs) _ (at .loop .letter) (turn .if1 .taken)
     (sym (c .before .leads-back .ensures) ∙ c .if2 .taken) (at .loop .inv .1))
 
 add-letter : tie.Need-add-letter Inv-loop μ-loop
@@ -52,8 +52,8 @@ returns-2 : tie.Need-returns-2 Inv-loop μ-loop
 unfolding outputOf leadsBack tableIn
 returns-2 c =
     let at = c .before .before in
-    let e : at .loop .letter ≡ at .before .args .table .outputs = omega arith in
-    e ∙ sym (first-none (at .before .args .table .outputs) _ (rw e at (at .loop .inv .1)))
+    let e : at .loop .letter ≡ at .before .before .args .table .outputs = omega arith in
+    e ∙ sym (first-none (at .before .before .args .table .outputs) _ (rw e at (at .loop .inv .1)))
 
 pub output-of-spec : {M : Type 1} → statement M
 output-of-spec =

@@ -24,27 +24,27 @@ abbrev μ-loop : tie.MeasureT-loop
 -- there is room for one state's rows more
 room : (c : tie.After-state-at Inv-loop μ-loop)
     → (let at = c .before .before in
-    let given = at .before .before .args in
+    let given = at .before .before .before .args in
     (at .loop .at + given .table .inputs * 4 ≤ length (at .loop .controller)) × (given .table .inputs ≤ 8)
     × (32 * (at .loop .b + 1) ≤ length (given .controller .now)))
 unfolding tableIn
 room c =
     let at = c .before .before in
-    let start = at .before .before in
+    let start = at .before .before .before in
     let few : start .args .table .inputs ≤ 8 = start .pre .2 .inputs in
     let turn : at .loop .b < start .args .n = c .before .loop-test .taken in
     (omega (arith, start .pre .3, at .loop .inv .1 .most, at .loop .inv .1 .long), few, omega (arith, start .pre .3))
 
 -- it is one of the states
-state-now : (c : tie.After-state-at Inv-loop μ-loop) → c .state-at .result < c .before .before .before .before .args .n
+state-now : (c : tie.After-state-at Inv-loop μ-loop) → c .state-at .result < c .before .before .before .before .before .args .n
 state-now c =
-    let start = c .before .before .before .before in
+    let start = c .before .before .before .before .before in
     rw (c .state-at .ensures) (state-inside (start .args .start) (start .args .n) (c .before .before .loop .b) (start .pre .1)
     (c .before .loop-test .taken))
 
 loop-holds : tie.Need-loop-holds Inv-loop μ-loop
 loop-holds c =
-    let given = c .before .args in (
+    let given = c .before .before .args in (
       zero-le,
       blocks-none (given .k) (tableIn (given .table)) (members (given .list .now) (given .n)) (given .start)
           (given .controller .now),
@@ -65,7 +65,7 @@ part-write-state-end c = omega (arith, room c)
 write-state-requires : tie.Need-write-state-requires Inv-loop μ-loop
 write-state-requires c κs =
     let called = c .before in
-    let start = called .before .before .before .before in
+    let start = called .before .before .before .before .before in
     (start .pre .0, state-now called, start .pre .2, simp (length-take, length-drop) (omega (arith, room called)))
 
 mul-at : tie.Need-mul-at Inv-loop μ-loop
@@ -86,7 +86,7 @@ loop-again c =
     let wrote = c .before .before .before in
     let called = wrote .before .before in
     let at = called .before .before in
-    let given = at .before .before .args in
+    let given = at .before .before .before .args in
     let fits = room called in (
       omega (arith, called .before .loop-test .taken),
       blocks-next (given .k) (tableIn (given .table)) (members (given .list .now) (given .n)) (given .start) (given .controller .now)
@@ -102,7 +102,7 @@ same-length c = c .before .loop .inv .1 .long
 returns : tie.Need-returns Inv-loop μ-loop
 returns c =
     let at = c .before in
-    let start = at .before .before in
+    let start = at .before .before .before in
     let given = start .args in
     let all = given .list .now in
     let ws = members all (given .n) in

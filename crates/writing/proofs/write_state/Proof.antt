@@ -10,12 +10,12 @@ use Rattle.meaning.specs.Lists.{tab, written}
 use Rattle.meaning.specs.Counting.{Position, covered}
 use Rattle.meaning.specs.Written.{covering, afterRound, outputOf, rowBytes, rowsOfState}
 use Rattle.meaning.proofs.Stores.{written-length}
-use Rattle.counts.specs.Cells.{cells}
+use Rattle.counts.specs.Words.{countsIn}
 use Rattle.table.specs.Packed.{tableIn}
 use Rattle.lists.specs.Members.{members}
 use Rattle.lists.proofs.Members.{members-length}
 use Rattle.writing.proofs.Stepped.{covering-stepped}
-use Rattle.writing.proofs.Bytes.{member-cells}
+use Rattle.writing.proofs.Bytes.{member-counts}
 use Rattle.writing.proofs.Rows.{outputOn, nextOn, rowOn, rows-length, row-written, next-inside}
 use Rattle.writing.proofs.write_state.Statement.{statement}
 use Rattle.writing.proofs.write_state.Tie as tie
@@ -37,28 +37,28 @@ output-on c =
     let all = given .list .now in
     c .output-of .ensures
     ∙ ap (outputOf (given .k) (tableIn (given .table)) (covered (members all (given .n))))
-    (sym (member-cells all (given .state) (given .n) (start .pre .1) (start .pre .0)))
+    (sym (member-counts all (given .state) (given .n) (start .pre .1) (start .pre .0)))
 
 -- the next state is the state's for this input
 next-on : (c : tie.After-covering Inv-loop μ-loop)
-    → (let at = c .before .before .before .before .before .before in
+    → (let at = c .before .before .before .before in
     let given = at .before .before .before .before .before .args in
     c .covering .result ≡ nextOn (given .k) (tableIn (given .table)) (members (given .list .now) (given .n)) (given .state) (at .loop .i))
 next-on c =
-    let stepped = c .before .before in
-    let at = stepped .before .before .before .before in
+    let stepped = c .before in
+    let at = stepped .before .before .before in
     let start = at .before .before .before .before .before in
     let given = start .args in
     let all = given .list .now in
     let t = tableIn (given .table) in
     let ws = members all (given .n) in
-    let F = cells (getD all (given .state) []) in
+    let F = countsIn (getD all (given .state) 0) in
     c .covering .ensures
     ∙ covering-stepped (given .k) t (start .pre .2 .bounded) (at .before .output-of .result) (at .loop .i) F ws
-    (cells (stepped .after-round .result))
+    (countsIn (stepped .after-round .result))
     (stepped .after-round .ensures)
     ∙ ap₂ (λ (o : ℕ) (G : Position). covering ws (afterRound (given .k) t o (at .loop .i) G)) (output-on (at .before))
-    (sym (member-cells all (given .state) (given .n) (start .pre .1) (start .pre .0)))
+    (sym (member-counts all (given .state) (given .n) (start .pre .1) (start .pre .0)))
 
 -- what fits: the four numbers a byte each, and the row the buffer
 record Fits (state output input next room : ℕ) : Type 0 where
@@ -69,13 +69,13 @@ record Fits (state output input next room : ℕ) : Type 0 where
   of-row : input * 4 + 4 ≤ room
 
 fits-here : (c : tie.After-covering Inv-loop μ-loop)
-    → (let at = c .before .before .before .before .before .before in
+    → (let at = c .before .before .before .before in
     let called = at .before in
     let given = called .before .before .before .before .args in
     Fits (given .state) (called .output-of .result) (at .loop .i) (c .covering .result) (length (at .loop .controller)))
 unfolding tableIn
 fits-here c =
-    let turn = c .before .before .before .before in
+    let turn = c .before .before in
     let at = turn .before .before in
     let called = at .before in
     let start = called .before .before .before .before in
@@ -99,23 +99,25 @@ fits-here c =
 mul-p : tie.Need-mul-p Inv-loop μ-loop
 mul-p c = search needs
 
-shared-slice-copy-out-p : tie.Need-shared-slice-copy-out-p Inv-loop μ-loop
-shared-slice-copy-out-p c = search needs
+shared-slice-read-p : tie.Need-shared-slice-read-p Inv-loop μ-loop
+shared-slice-read-p c = search needs
 
 output-of-requires : tie.Need-output-of-requires Inv-loop μ-loop
-output-of-requires c κs = c .before .before .before .pre .2 .bounded
+output-of-requires c κs =
+    let start = c .before .before .before in
+    (start .pre .2 .bounded, start .pre .0)
 
 loop-holds : tie.Need-loop-holds Inv-loop μ-loop
 unfolding rowBytes flatMap
 loop-holds c = (zero-le, refl, refl)
 
 after-round-requires : tie.Need-after-round-requires Inv-loop μ-loop
-after-round-requires c κs = c .before .before .before .before .before .before .before .before .pre .2 .bounded
+after-round-requires c κs = c .before .before .before .before .before .before .before .pre .2 .bounded
 
 covering-requires : tie.Need-covering-requires Inv-loop μ-loop
 covering-requires c κs =
-    let stepped = c .before .before in
-    stepped .before .before .before .before .before .before .before .before .pre .0
+    let turn = c .before in
+    turn .before .before .before .before .before .before .before .pre .0
 
 mul-at : tie.Need-mul-at Inv-loop μ-loop
 mul-at c = omega (arith, fits-here c)
@@ -154,7 +156,7 @@ loop-again : tie.Need-loop-again Inv-loop μ-loop
 loop-again c =
     let wrote = c .before .before in
     let covered = wrote .before .before in
-    let turn = covered .before .before .before .before in
+    let turn = covered .before .before in
     let at = turn .before .before in
     let start = at .before .before .before .before .before in
     let given = start .args in
@@ -190,7 +192,7 @@ write-state-spec =
     Inv-loop
     μ-loop
     mul-p
-    shared-slice-copy-out-p
+    shared-slice-read-p
     output-of-requires
     loop-holds
     after-round-requires

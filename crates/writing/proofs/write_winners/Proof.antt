@@ -1,11 +1,10 @@
 -- `write_winners`: the loop's invariant is that the first b bytes of the winners are written. Byte b is the count of state b % 8 of
 -- winner b / 8. The measure is the number of bytes left. Assumes nothing.
 use mathlib.Core.Path.{_≡_, refl, sym, ap, _∙_}
-use mathlib.Core.List.{List, []}
+use mathlib.Core.List.{List}
 use Prim.Native.Nat.{ℕ, _≤_, _-_, _*_, _/_, _%_, zero-le}
 use native.Mathlib.Omega.{arith}
 use borrow.Author.Needs.{needs}
-use lib.IntN.{pos}
 use lib.ListN.{length, getD, take, set, length-set}
 use lib.Seq.{take-all}
 use Rattle.meaning.specs.Lists.{written}
@@ -14,10 +13,9 @@ use Rattle.meaning.specs.Written.{winnersBytes}
 use Rattle.meaning.proofs.Buffers.{winners-bytes}
 use Rattle.meaning.proofs.Stores.{list-store}
 use Rattle.counts.proofs.Signed.{from-bits}
-use Rattle.counts.proofs.Cells.{cells-at}
 use Rattle.lists.specs.Members.{members}
 use Rattle.lists.proofs.Members.{members-length}
-use Rattle.writing.proofs.Bytes.{bytes-at, member-cells}
+use Rattle.writing.proofs.Bytes.{bytes-at, member-counts}
 use Rattle.writing.proofs.write_winners.Statement.{statement}
 use Rattle.writing.proofs.write_winners.Tie as tie
 
@@ -34,14 +32,14 @@ loop-holds c = (zero-le, refl, refl)
 mul-loop : tie.Need-mul-loop Inv-loop μ-loop
 mul-loop c = search needs
 
-mul-p : tie.Need-mul-p Inv-loop μ-loop
-mul-p c = search needs
+mul-at : tie.Need-mul-at Inv-loop μ-loop
+mul-at c = search needs
 
-shared-slice-copy-out-p : tie.Need-shared-slice-copy-out-p Inv-loop μ-loop
-shared-slice-copy-out-p c = search needs
+shared-slice-read-at : tie.Need-shared-slice-read-at Inv-loop μ-loop
+shared-slice-read-at c = search needs
 
-array-copy-out-to-byte : tie.Need-array-copy-out-to-byte Inv-loop μ-loop
-array-copy-out-to-byte c = search needs
+at-requires : tie.Need-at-requires Inv-loop μ-loop
+at-requires c κs = search needs
 
 to-byte-requires : tie.Need-to-byte-requires Inv-loop μ-loop
 to-byte-requires c κs = search needs
@@ -58,17 +56,16 @@ loop-less c = search needs
 loop-again : tie.Need-loop-again Inv-loop μ-loop
 loop-again c =
     let at = c .before .before .before .before in
-    let given = at .before .before .args in
+    let given = at .before .before .before .args in
     let all = given .list .now in
     let n = given .n in
     let b = at .loop .b in
     let ws = members all n in
-    let p = getD all (b / 8) [] in
     let number : length ws ≡ n = members-length all n (omega arith) in
     let byte : c .to-byte .result ≡ getD (winnersBytes ws) b 0 =
-    (rw (from-bits (getD p (b % 8) (pos 0)) (c .before .to-byte-arg .given)) at (c .to-byte .ensures))
-    ∙ sym (cells-at p (b % 8) (omega arith))
-    ∙ ap (λ (F : Position). count F (b % 8)) (sym (member-cells all (b / 8) n (omega arith) (omega arith)))
+    (rw (from-bits (c .before .at .result) (c .before .at .ok)) at (c .to-byte .ensures))
+    ∙ c .before .at .ensures
+    ∙ ap (λ (F : Position). count F (b % 8)) (sym (member-counts all (b / 8) n (omega arith) (omega arith)))
     ∙ sym (bytes-at ws b (omega arith)) in (
       omega arith,
       simp length-set (at .loop .inv .1),
@@ -82,7 +79,7 @@ same-length c = search needs
 returns : tie.Need-returns Inv-loop μ-loop
 returns c =
     let at = c .before in
-    let given = at .before .before .args in
+    let given = at .before .before .before .args in
     let old = given .winners .now in
     let ws = members (given .list .now) (given .n) in
     at .loop .inv .2
@@ -98,9 +95,9 @@ write-winners-spec =
     μ-loop
     loop-holds
     mul-loop
-    mul-p
-    shared-slice-copy-out-p
-    array-copy-out-to-byte
+    mul-at
+    shared-slice-read-at
+    at-requires
     to-byte-requires
     slice-write-winners
     add-b

@@ -11,19 +11,16 @@ use Rattle.meaning.specs.Play.{Realizes, rowsIn}
 use Rattle.meaning.proofs.Tests.{clash}
 use Rattle.meaning.proofs.Realizes.{start-length, realizes-safe}
 use Rattle.meaning.proofs.Followed.{following}
-use Rattle.counts.specs.Cells.{startCounts}
+use Rattle.counts.specs.Halves.{startCounts}
 use Rattle.counts.specs.Words.{countsIn}
 use Rattle.table.specs.Packed.{tableIn}
 use Rattle.checker.proofs.Counts.{safe-wide}
 use Rattle.checker.proofs.Stated.{steps-stated}
-use Rattle.checker.proofs.Tracks.{fitting, start-low}
+use Rattle.checker.proofs.Tracks.{fitting}
 use Rattle.checker.proofs.keep.keeps.Statement.{statement}
 use Rattle.checker.proofs.keep.keeps.Tie as tie
 
--- the places on the way: the start position made, the outputs' words, and the call
-abbrev made : tie.After-pack → tie.After-start
-made c = c .before .before
-
+-- the places on the way: the outputs' words, and the call
 abbrev outs : tie.After-start → tie.After-spreads
 outs c = c .before .before .before .before
 
@@ -31,18 +28,18 @@ abbrev begin : tie.After-start → tie.Start
 begin c = outs c .before .before .before .before .before .before .before
 
 -- the start position, in eight counts
-begun : (c : tie.After-pack) →
-    let args = begin (made c) .args in
-    countsIn (c .pack .result) ≡ positionBytes (startPosition (args .k) (tableIn (args .table)))
+begun : (c : tie.After-start) →
+    let args = begin c .args in
+    countsIn (c .start .result) ≡ positionBytes (startPosition (args .k) (tableIn (args .table)))
 unfolding tableIn startPosition startCounts
-begun c = c .pack .ensures ∙ made c .start .ensures
+begun c = c .start .ensures
 
 -- it is safe where following the rows keeps every run to K: a run visits its first state too
-begun-safe : (c : tie.After-pack) →
-    let args = begin (made c) .args in
-    Realizes (args .k) (tableIn (args .table)) (following (rowsIn (now (args .rows)))) → safe (args .k) (countsIn (c .pack .result)) ≡ true
+begun-safe : (c : tie.After-start) →
+    let args = begin c .args in
+    Realizes (args .k) (tableIn (args .table)) (following (rowsIn (now (args .rows)))) → safe (args .k) (countsIn (c .start .result)) ≡ true
 begun-safe c realizes =
-    let start = begin (made c) in
+    let start = begin c in
     let t = tableIn (start .args .table) in
     rw (begun c) (safe-wide (start .args .k) (startPosition (start .args .k) t)
     (rw (start-length (start .args .k) t) (start .pre .bounded .small .controllers))
@@ -66,28 +63,20 @@ marks-requires-2 c κs = search needs
 start-requires : tie.Need-start-requires
 start-requires c κs = search needs
 
-pack-requires : tie.Need-pack-requires
-unfolding tableIn startPosition startCounts
-pack-requires c κs =
-    let first = begin (c .before) in
-    rw (c .before .start .ensures) (start-low (first .args .k) (tableIn (first .args .table)) (first .pre .bounded .patience)
-    (first .pre .bounded .small .controllers))
-
 safe-requires : tie.Need-safe-requires
 safe-requires c κs = search needs
 
 returns : tie.Need-returns
 returns c =
-    let pack = c .before .before in (
+    let made = c .before .before in (
       λ e. absurd (true≢false (sym e)),
-      λ realizes. absurd (clash _ (begun-safe pack realizes) (sym (c .before .safe .ensures) ∙ not-true _ (c .if1 .taken))),
+      λ realizes. absurd (clash _ (begun-safe made realizes) (sym (c .before .safe .ensures) ∙ not-true _ (c .if1 .taken))),
     )
 
 settles-requires : tie.Need-settles-requires
 settles-requires c κs =
     let tested = c .before .before .before in
-    let pack = tested .before .before in
-    let words = made pack in
+    let words = tested .before .before in
     let start = begin words in
     record {
       followable = start .pre;
@@ -95,7 +84,7 @@ settles-requires c κs =
       steps = steps-stated (start .args .k) (start .args .table) (now (start .args .rows)) (start .pre) _ _ _ _
           (outs words .spreads .ensures)
           (words .before .before .before .marks .ensures) (words .before .before .spreads2 .ensures) (words .before .marks2 .ensures);
-      starts = begun pack;
+      starts = begun words;
       safely = sym (tested .before .safe .ensures) ∙ not-false _ (tested .if1 .left);
     }
 
@@ -112,7 +101,6 @@ keeps-spec =
     spreads-requires-2
     marks-requires-2
     start-requires
-    pack-requires
     safe-requires
     returns
     settles-requires

@@ -3,21 +3,21 @@
 -- the step back under the most, since no mask has a target from 8 on. The measure is the number of targets left. Assumes nothing.
 use mathlib.Core.Path.{_≡_, refl, ap, _∙_}
 use mathlib.Core.Logic.{⊎-elim}
-use Prim.Native.Nat.{_≤_, _-_, min}
+use Prim.Native.Nat.{_≤_, _-_}
 use native.Mathlib.Omega.{arith}
 use borrow.Author.Needs.{needs}
-use lib.IntN.{pos}
 use lib.ListN.{getD}
-use Rattle.meaning.specs.Counting.{oneHigher}
-use Rattle.meaning.proofs.Signed.{lesser-signed, less-signed}
-use Rattle.counts.specs.Cells.{cell}
+use Rattle.meaning.specs.Counting.{oneHigher, count}
+use Rattle.meaning.proofs.Signed.{less-signed}
+use Rattle.counts.specs.Words.{countsIn}
 use Rattle.counts.proofs.Signed.{from-bits}
+use Rattle.counts.proofs.Bytes.{countsIn-low}
 use Rattle.counts.proofs.Bars.{Lowered, lowered-by, lowered-still, lowered-whole}
 use Rattle.counts.proofs.word.back.Statement.{statement}
 use Rattle.counts.proofs.word.back.Tie as tie
 
 abbrev Inv-loop : tie.InvT-loop
-Inv-loop m bars most half low₀ q₀ low q = (q ≤ 8) × Lowered half m most q low
+Inv-loop m bars most half low₀ q₀ low q = (q ≤ 8) × Lowered half (countsIn m) most q low
 
 abbrev μ-loop : tie.MeasureT-loop
 μ-loop m bars most half low₀ q₀ low q = 8 - q
@@ -25,17 +25,14 @@ abbrev μ-loop : tie.MeasureT-loop
 loop-holds : tie.Need-loop-holds Inv-loop μ-loop
 loop-holds c = (omega arith, λ p _. refl)
 
+at-requires : tie.Need-at-requires Inv-loop μ-loop
+at-requires c κs = search needs
+
 element-copy-out-less : tie.Need-element-copy-out-less Inv-loop μ-loop
 element-copy-out-less c = search needs
 
-element-copy-out-less-2 : tie.Need-element-copy-out-less-2 Inv-loop μ-loop
-element-copy-out-less-2 c = search needs
-
 less-requires : tie.Need-less-requires Inv-loop μ-loop
 less-requires c κs = search needs
-
-lesser-requires : tie.Need-lesser-requires Inv-loop μ-loop
-lesser-requires c κs = search needs
 
 to-byte-requires : tie.Need-to-byte-requires Inv-loop μ-loop
 to-byte-requires c κs = search needs
@@ -52,8 +49,8 @@ mul-lesser c = search needs
 element-copy-out-lesser : tie.Need-element-copy-out-lesser Inv-loop μ-loop
 element-copy-out-lesser c = search needs
 
-lesser-requires-2 : tie.Need-lesser-requires-2 Inv-loop μ-loop
-lesser-requires-2 c κs = search needs
+lesser-requires : tie.Need-lesser-requires Inv-loop μ-loop
+lesser-requires c κs = search needs
 
 add-q : tie.Need-add-q Inv-loop μ-loop
 add-q c = search needs
@@ -67,19 +64,19 @@ loop-again c =
     let q = at .loop .q in
     let given = at .before .args in
     let half = given .t2 in
-    let m = given .m .now in
+    let F = countsIn (given .m) in
     let low = at .loop .low in
     let before = at .loop .inv .1 in (
       omega arith,
       ⊎-elim
-          (λ w. let eased : oneHigher (w .3 .result) ≡ cell m q - getD (half .marks) q 0
-          = ap oneHigher (rw (from-bits (getD m q (pos 0)) (w .1 .given)) at (w .3 .ensures)) ∙ less-signed _ _ in
-          let capped : oneHigher (w .4 .result) ≡ min (oneHigher (w .3 .result)) 127
-          = ap oneHigher (rw (from-bits (w .3 .result) (w .3 .ok)) at (w .4 .ensures)) ∙ lesser-signed _ _ in
-          let byte : w .5 .result ≡ oneHigher (w .4 .result) = rw (from-bits (w .4 .result) (w .4 .ok)) at (w .5 .ensures) in
-          rw (w .8) (lowered-by half m (given .most) q low before (getD (given .bars .now) q 0) (w .5 .result) (w .7 .result) (w .0 .taken)
-          (at .before .pre q (w .0 .taken) (omega arith)) (omega arith) (w .7 .ensures)))
-          (λ w. rw (w .1) (lowered-still half m (given .most) q low before (w .0 .left)))
+          (λ w. let eased : oneHigher (w .3 .result) ≡ count F q - getD (half .marks) q 0
+          = ap oneHigher (rw (from-bits (w .1 .result) (w .1 .ok)) at (w .3 .ensures)) ∙ less-signed _ _
+          ∙ ap (λ n. n - getD (half .marks) q 0) (w .1 .ensures) in
+          let byte : w .4 .result ≡ oneHigher (w .3 .result) = rw (from-bits (w .3 .result) (w .3 .ok)) at (w .4 .ensures) in
+          rw (w .7) (lowered-by half F (given .most) q low before (getD (given .bars .now) q 0) (w .4 .result) (w .6 .result) (w .0 .taken)
+          (at .before .pre q (w .0 .taken) (omega arith)) (byte ∙ eased) (omega (arith, byte, eased, countsIn-low (given .m) q))
+          (w .6 .ensures)))
+          (λ w. rw (w .1) (lowered-still half F (given .most) q low before (w .0 .left)))
           (c .if1 .came),
     )
 
@@ -88,7 +85,7 @@ returns c =
     let at = c .before in
     let given = at .before .args in
     let whole : at .loop .q ≡ 8 = omega arith in
-    lowered-whole (given .t2) (given .m .now) (given .most) (at .loop .low) (rw whole at (at .loop .inv .1))
+    lowered-whole (given .t2) (countsIn (given .m)) (given .most) (at .loop .low) (rw whole at (at .loop .inv .1))
 
 pub back-spec : {M : Type 1} → statement M
 back-spec =
@@ -97,16 +94,15 @@ back-spec =
     Inv-loop
     μ-loop
     loop-holds
+    at-requires
     element-copy-out-less
-    element-copy-out-less-2
     less-requires
-    lesser-requires
     to-byte-requires
     cast-all
     mul-all
     mul-lesser
     element-copy-out-lesser
-    lesser-requires-2
+    lesser-requires
     add-q
     loop-less
     loop-again

@@ -8,7 +8,8 @@ use Rattle.meaning.specs.declared.Answer.{Answer}
 use Rattle.meaning.specs.Counting.{startPosition}
 use Rattle.meaning.specs.Written.{startState}
 use Rattle.meaning.specs.Answers.{solved}
-use Rattle.counts.specs.Cells.{cells, startCounts}
+use Rattle.counts.specs.Halves.{startCounts}
+use Rattle.counts.specs.Words.{countsIn}
 use Rattle.table.specs.Packed.{tableIn}
 use Rattle.lists.specs.Members.{members}
 use Rattle.lists.proofs.Members.{members-length}
@@ -25,27 +26,27 @@ abbrev after-winners : tie.After-start → tie.After-write-winners
 after-winners c = c .before .before .before .before
 
 abbrev call : tie.After-write-winners → tie.Start
-call c = c .before .before .before .before .before
+call c = c .before .before .before .before .before .before
 
 -- the place found is the start state
 begins : (c : tie.After-covering)
-    → (let given = call (after-winners (c .before .before)) .args in
+    → (let given = call (after-winners (c .before)) .args in
     c .covering .result ≡ startState (given .k) (tableIn (given .table)) (members (given .list .now) (given .n)))
 unfolding tableIn startPosition startCounts
 begins c =
-    let begun = c .before .before in
+    let begun = c .before in
     let start = call (after-winners begun) in
     let given = start .args in
     c .covering .ensures
     ∙ start-stepped (given .k) (tableIn (given .table)) (start .pre .1 .bounded) (members (given .list .now) (given .n))
-    (cells (begun .start .result)) (begun .start .ensures)
+    (countsIn (begun .start .result)) (begun .start .ensures)
 
 refused-requires : tie.Need-refused-requires
 refused-requires c κs = search needs
 
 returns : tie.Need-returns
 returns c =
-    let start = c .before .before .before .before in
+    let start = c .before .before .before .before .before in
     let given = start .args in
     ap (λ (r : Answer). solved r (given .winners .now) (given .controller .now)) (c .refused .ensures)
     ∙ finished-nothing (given .k) (tableIn (given .table)) (members (given .list .now) (given .n)) (given .rounds) (given .winners .now)
@@ -54,7 +55,7 @@ returns c =
 
 write-winners-requires : tie.Need-write-winners-requires
 write-winners-requires c κs =
-    let start = c .before .before .before .before in
+    let start = c .before .before .before .before .before in
     (start .pre .0, omega (arith, start .pre .2 .winners, number start))
 
 start-requires : tie.Need-start-requires
@@ -68,7 +69,7 @@ same-length c = search needs
 
 returns-2 : tie.Need-returns-2
 returns-2 c =
-    let wrote = after-winners (c .before .before .before) in
+    let wrote = after-winners (c .before .before) in
     let start = call wrote in
     let given = start .args in
     finished-without (given .k) (tableIn (given .table)) (members (given .list .now) (given .n)) (given .rounds) (given .winners .now)
@@ -79,7 +80,7 @@ returns-2 c =
 
 write-rows-requires : tie.Need-write-rows-requires
 write-rows-requires c κs =
-    let start = call (after-winners (c .before .before .before .before)) in
+    let start = call (after-winners (c .before .before .before)) in
     (start .pre .0, c .before .if2 .left, start .pre .1, omega (arith, start .pre .2 .controller, number start))
 
 same-length-2 : tie.Need-same-length-2
@@ -92,7 +93,7 @@ returns-3 : tie.Need-returns-3
 returns-3 c =
     let rows = c .before .before in
     let found = rows .before .before in
-    let wrote = after-winners (found .before .before .before) in
+    let wrote = after-winners (found .before .before) in
     let start = call wrote in
     let given = start .args in
     finished-with (given .k) (tableIn (given .table)) (members (given .list .now) (given .n)) (given .rounds) (given .winners .now)

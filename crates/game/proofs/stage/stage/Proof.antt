@@ -16,7 +16,7 @@ slice-aggregate-settle c = search needs
 
 settle-requires : tie.Need-settle-requires
 settle-requires c κs =
-    let start = c .before .before .before in
+    let start = c .before .before .before .before in
     let granted = room-grants (start .args .room) (now (start .args .winners)) (now (start .args .controller)) (start .pre .0 .1) in
     (start .pre .0 .0, start .pre .1 .0, granted .some, granted .within, granted .within, start .pre .1 .1)
 
@@ -34,7 +34,7 @@ unfolding staged
 returns c =
     let told = c .before in
     let call = told .before .before .before in
-    let start = call .before .before .before .before in
+    let start = call .before .before .before .before .before in
     settled-full (call .settle .ensures) (told .enum-told .given .1) 0 (now (start .args .winners)) (now (start .args .controller))
     _ (c .refused .ensures)
 
@@ -45,7 +45,7 @@ finish-requires : tie.Need-finish-requires
 finish-requires c κs =
     let known = c .before .before .before .before in
     let call = known .before .before .before in
-    let start = call .before .before .before .before in
+    let start = call .before .before .before .before .before in
     let settles = call .settle .ensures in
     let fit = start .pre .0 .2 in
     let first = start .pre .1 .1 .first in
@@ -68,7 +68,7 @@ returns-2 c =
     let finish = c .before .before .before .before in
     let known = finish .before .before .before .before .before in
     let call = known .before .before .before in
-    let start = call .before .before .before .before in
+    let start = call .before .before .before .before .before in
     finish .finish .ensures
     ∙ settled-finished (call .settle .ensures) (known .settled .given .1) (start .pre .1 .1 .first) (start .pre .0 .2 .small) 0
     (now (start .args .winners)) (now (start .args .controller))

@@ -2,13 +2,13 @@
 -- many of the first list are left. There are as many pairs as the product of the two numbers, so that is past the room exactly if the
 -- list is. Assumes nothing.
 use mathlib.Core.Path.{_≡_, refl, sym, ap, ap₂, _∙_}
-use mathlib.Core.List.{[], flatMap}
+use mathlib.Core.List.{flatMap}
 use Prim.Native.Nat.{ℕ, _+_, _-_, _*_, _≤_, zero-le}
 use native.Mathlib.Nat.{zero-mul, add-mul, one-mul, mul-le-mul}
 use native.Mathlib.Omega.{arith}
 use borrow.Author.Needs.{needs}
 use lib.ListN.{length, getD}
-use Rattle.counts.specs.Cells.{cells}
+use Rattle.counts.specs.Words.{countsIn}
 use Rattle.lists.specs.Members.{members}
 use Rattle.lists.proofs.Members.{members-length, members-more}
 use Rattle.tops.proofs.Held.{holds-full, holds-number}
@@ -35,31 +35,33 @@ number c =
 
 -- one row more has room
 room-left : (c : tie.In-loop Inv-loop μ-loop) →
-    let given = c .before .before .before .args in
+    let given = c .before .before .before .before .before .before .args in
     c .before .loop .end + given .bn ≤ given .room
 room-left c =
     let head = c .before in
-    let given = head .before .before .args in
+    let given = head .before .before .before .before .before .args in
     omega (arith, row-fits (head .loop .i) (given .an) (given .bn) (c .loop-test .taken), head .loop .inv .2, head .before .if1 .left)
 
 mul-if1 : tie.Need-mul-if1 Inv-loop μ-loop
-mul-if1 c = omega (arith, mul-le-mul {n₂ = 256} {m₂ = 256} (c .pre .0) (c .pre .1))
+mul-if1 c =
+    let start = c .before .before .before in
+    omega (arith, mul-le-mul {n₂ = 256} {m₂ = 256} (start .pre .0) (start .pre .1))
 
 returns : tie.Need-returns Inv-loop μ-loop
-returns c = holds-full _ (rw (number (c .before)) (c .if1 .taken))
+returns c = holds-full _ (rw (number (c .before .before .before .before)) (c .if1 .taken))
 
 loop-holds : tie.Need-loop-holds Inv-loop μ-loop
 unfolding members allBeside flatMap
 loop-holds c = (zero-le, refl, sym (zero-mul _), refl)
 
-mul-x : tie.Need-mul-x Inv-loop μ-loop
-mul-x c = search needs
+mul-append : tie.Need-mul-append Inv-loop μ-loop
+mul-append c = search needs
 
-shared-slice-copy-out-x : tie.Need-shared-slice-copy-out-x Inv-loop μ-loop
-shared-slice-copy-out-x c = search needs
+shared-slice-read-append : tie.Need-shared-slice-read-append Inv-loop μ-loop
+shared-slice-read-append c = search needs
 
 append-requires : tie.Need-append-requires Inv-loop μ-loop
-append-requires c κs = (search needs, omega (arith, room-left (c .before .before .before)))
+append-requires c κs = (search needs, omega (arith, room-left (c .before .before)))
 
 add-end : tie.Need-add-end Inv-loop μ-loop
 add-end c = omega (arith, room-left (c .before .before .before .before .before))
@@ -72,9 +74,9 @@ loop-less c = search needs
 
 loop-again : tie.Need-loop-again Inv-loop μ-loop
 loop-again c =
-    let call = c .before in
-    let head = call .before .before .before .before .before in
-    let given = head .before .before .args in
+    let call = c .before .before in
+    let head = call .before .before .before .before in
+    let given = head .before .before .before .before .before .args in
     let i = head .loop .i in
     let row : (i + 1) * given .bn ≡ i * given .bn + given .bn = add-mul i 1 (given .bn)
     ∙ ap (λ (m : ℕ). i * given .bn + m) (one-mul (given .bn)) in (
@@ -83,7 +85,8 @@ loop-again c =
       omega (arith, row, head .loop .inv .2),
       call .append .ensures
           ∙ rw (head .loop .inv .3, members-more (given .a .now) i (omega arith))
-          (sym (all-more (given .n) (members (given .a .now) i) (members (given .b .now) (given .bn)) (cells (getD (given .a .now) i [])))),
+          (sym (all-more (given .n) (members (given .a .now) i) (members (given .b .now) (given .bn))
+          (countsIn (getD (given .a .now) i 0)))),
     )
 
 same-length : tie.Need-same-length Inv-loop μ-loop
@@ -92,7 +95,7 @@ same-length c = search needs
 returns-2 : tie.Need-returns-2 Inv-loop μ-loop
 returns-2 c =
     let head = c .before in
-    let start = head .before .before in
+    let start = head .before .before .before .before .before in
     let all : head .loop .i ≡ start .args .an = omega arith in
     let held = rw all at (head .loop .inv .3) in
     let end : head .loop .end ≡ start .args .an * start .args .bn = rw all at (head .loop .inv .2) in
@@ -107,8 +110,8 @@ pairs-spec =
     mul-if1
     returns
     loop-holds
-    mul-x
-    shared-slice-copy-out-x
+    mul-append
+    shared-slice-read-append
     append-requires
     add-end
     add-i

@@ -27,18 +27,18 @@ passes c =
 
 -- the bytes that were written are the joined table's
 bytes-made : (c : tie.After-write) →
-    let start = c .before .before .before .before .before .before in
+    let start = c .before .before .before .before .before .before .before in
     take (c .write .result) (c .write .last .1 .1 .1 .0) ≡ joinedBytes (now (start .args .first)) (now (start .args .second))
 bytes-made c = rw (c .write .ensures .0, c .write .ensures .1) (take-append-seam _ _)
 
 -- what is read of them is the joined table
 table-read : (c : tie.After-read) →
     let write = c .before .before .before in
-    let start = write .before .before .before .before .before .before in
+    let start = write .before .before .before .before .before .before .before in
     tableIn (c .read .result) ≡ joinedTable (now (start .args .first)) (now (start .args .second))
 table-read c =
     let write = c .before .before .before in
-    let start = write .before .before .before .before .before .before in
+    let start = write .before .before .before .before .before .before .before in
     joined-read (now (start .args .first)) (now (start .args .second)) (passes start) (c .read .result)
     (c .read .ensures ∙ ap (λ (l : List ℕ). packed (tableOf (recordsOf l))) (bytes-made write))
 
@@ -51,7 +51,7 @@ write-requires c κs = search needs
 array-share-prefix-bytes : tie.Need-array-share-prefix-bytes
 array-share-prefix-bytes c =
     let write = c .before in
-    let start = write .before .before .before .before .before .before in
+    let start = write .before .before .before .before .before .before .before in
     omega (
       arith,
       write .write .ensures .0,
@@ -68,7 +68,7 @@ read-requires c κs = search needs
 stage-requires : tie.Need-stage-requires
 stage-requires c κs =
     let write = c .before .before .before .before .before in
-    let start = write .before .before .before .before .before .before in
+    let start = write .before .before .before .before .before .before .before in
     let one = now (start .args .first) in
     let two = now (start .args .second) in
     let list = members (now (start .args .list)) (start .args .n) in
@@ -87,7 +87,7 @@ returns : tie.Need-returns
 returns c =
     let call = c .before .before .before .before in
     let write = call .before .before .before .before .before .before in
-    let start = write .before .before .before .before .before .before in
+    let start = write .before .before .before .before .before .before .before in
     let one = now (start .args .first) in
     let two = now (start .args .second) in
     let list = members (now (start .args .list)) (start .args .n) in

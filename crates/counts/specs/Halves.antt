@@ -1,22 +1,13 @@
--- How positions and halves of a round stand in code: eight signed counts, and a byte of targets for each state.
-use mathlib.Core.Bool.{Bool, cond, _&&_}
+-- How halves of a round stand in code, a byte of targets for each state, and what they and two positions are worked into.
+use mathlib.Core.Bool.{cond}
 use mathlib.Core.List.{List}
 use Prim.Native.Nat.{ℕ, _-_, max, min}
 use lib.ListN.{length, getD}
-use lib.IntN.{ℤ, pos}
 use Rattle.meaning.specs.Lists.{tab, smallest}
 use Rattle.meaning.specs.Table as T
 use Rattle.meaning.specs.Table.{bit}
-use Rattle.meaning.specs.Counting.{Position, oneHigher, count, plus, below}
+use Rattle.meaning.specs.Counting.{Position, count, plus}
 use Rattle.counts.specs.declared.position.Half.{Half}
-
--- the count that eight signed counts have at state q, one higher
-abbrev pub cell : List ℤ → ℕ → ℕ
-cell m q = oneHigher (getD m q (pos 0))
-
--- the position that eight signed counts stand for
-unfoldable pub cells : List ℤ → Position
-cells m = tab 8 (cell m)
 
 -- the lesser counts of two positions
 unfoldable pub lesserCounts : Position → Position → Position
@@ -31,10 +22,6 @@ unfoldable pub backUnder : Position → T.Half → Position → Position
 backUnder most h F =
     tab (length most) (λ p. smallest (count most p) (h .targets) (λ q. cond (h .edge p q) (count F q - h .mark q) (count most p)))
 
--- whether two positions have the same counts
-abbrev pub sameCounts : Position → Position → Bool
-sameCounts F G = below F G && below G F
-
 -- the half of a round that masks and marks state
 unfoldable pub halfOf : Half → T.Half
 halfOf h =
@@ -46,8 +33,8 @@ halfOf h =
     }
 
 -- what state p brings to state q going forward
-abbrev pub brought : ℕ → Half → List ℤ → ℕ → ℕ → ℕ
-brought K h m q p = cond (bit (getD (h .masks) p 0) q) (plus K (getD (h .marks) q 0) (cell m p)) 0
+abbrev pub brought : ℕ → Half → Position → ℕ → ℕ → ℕ
+brought K h F q p = cond (bit (getD (h .masks) p 0) q) (plus K (getD (h .marks) q 0) (count F p)) 0
 
 -- the start position that a mask of start states gives a side of n states with these marks
 unfoldable pub startCounts : ℕ → ℕ → ℕ → List ℕ → Position
