@@ -109,11 +109,12 @@ TEXT
 # A repository with the scripts as they are and nothing built.
 make_tree() {
     mkdir -p "$tree/docs" "$tree/crates/part/src" "$tree/crates/part/must-fail" "$tree/crates/desk/src" "$tree/crates/both/src" \
-        "$tree/crates/accept/src" "$tree/crates/other/src"
+        "$tree/crates/accept/src" "$tree/crates/compare/src" "$tree/crates/other/src"
     cp -R "$root/desk" "$root/tools" "$tree"
     cp "$root/docs/CARD.md" "$tree/docs"
-    printf '%s\n' '# a comment' 'part:' 'desk: part io' 'both: part io' 'accept: part io' 'other: part' >"$tree/crates.txt"
-    for crate in part desk both accept other; do echo 'fn main() {}' >"$tree/crates/$crate/src/main.rt"; done
+    printf '%s\n' '# a comment' 'part:' 'desk: part io' 'both: part io' 'accept: part io' 'compare: part io' 'other: part' \
+        >"$tree/crates.txt"
+    for crate in part desk both accept compare other; do echo 'fn main() {}' >"$tree/crates/$crate/src/main.rt"; done
 }
 
 # A PATH of the usual tools alone: no rt, no Graphviz.
@@ -234,6 +235,12 @@ test_calls() {
         call "$root/desk" --check "$root/tables/lamp.table" "$root/tables/lamp.rows" "$word"
         says "the patience '$word'" 2 "The patience is a number from 0 to 7: ./desk --check TABLE ROWS K."
     done
+    call "$root/desk" --compare
+    says "no position" 2 "Give two positions of one side, eight digits each: ./desk --compare A B."
+    call "$root/desk" --compare 00000000
+    says "one position" 2 "Give two positions of one side, eight digits each: ./desk --compare A B."
+    call "$root/desk" --compare 00000000 00000000 00000000
+    says "three positions" 2 "Give two positions of one side, eight digits each: ./desk --compare A B."
     call "$root/desk" --colour "$root/tables/owed.table"
     says "an option that is not there, and a file" 2 "./desk --help"
     call "$root/desk" --colour
@@ -600,6 +607,86 @@ test_rows_letters() {
         "In $asked_rows, row 2 counted from 0, bytes 8 to 11 (9 3 0 7): its output is 3" "$asked_rows was taken as plain bytes."
 }
 
+# ---- two positions
+
+# A word that is no position is refused before anything is built or run: here there is nothing that could be.
+refused_position() { # NAME FIRST SECOND WHICH
+    call env PATH="$plain" RATTLE_HOME="$scratch/nowhere" "$tree/desk" --compare "$2" "$3"
+    says "$1" 2 "The $4 position is not eight digits. It has one for each state: the count + 1, or 0 where no run is."
+    holds "$1: nothing is printed" test ! -s "$scratch/out"
+}
+
+test_bad_positions() {
+    for word in '' 0000000 000000000 0000000a '0000 000' ' 00000000' '00000000 ' 0000000-; do
+        refused_position "the first position '$word'" "$word" 00000000 first
+        refused_position "the second position '$word'" 00000000 "$word" second
+    done
+    refused_position "a position on two lines" '0000
+000' 00000000 first
+    refused_position "two words that are no positions" 0 0 first
+}
+
+# What is said of two positions where the program prints this line, and that the program was called with them.
+compares() { # FIRST SECOND LINE SENTENCE..
+    compares_name="$1 and $2"
+    rm -f "$scratch/words"
+    printf '%s\n' "$1" "$2" >"$scratch/given"
+    program_prints "$3"
+    stand_in --compare "$1" "$2"
+    shift 2
+    printf '%s\n' "$@" >"$scratch/said"
+    gives "positions $compares_name" 0 "$scratch/said"
+    holds "the program is called with $compares_name" cmp "$scratch/words" "$scratch/given"
+}
+
+is_below='The first is below the second: no state has a higher count in the first, and some state has a lower one.
+If the rules can be kept from the second, they can be kept from the first.'
+is_above='The first is above the second: no state has a lower count in the first, and some state has a higher one.
+If the rules can be kept from the first, they can be kept from the second.'
+is_neither='Neither is below the other: some state has a higher count in the first, and some other a higher one in the second.
+Whether the rules can be kept from one of them says nothing of the other.'
+is_same='The two are the same position: every state has the same count in both.'
+
+test_positions() {
+    compares 12000000 12000000 same "$is_same"
+    compares 00000000 00000000 same "$is_same"
+    compares 12000000 13000001 'below 1 7' "$is_below" 'State 1: count 1 in the first, count 2 in the second.' \
+        'State 7: no run in the first, count 0 in the second.'
+    compares 90000000 00000000 'above 0' "$is_above" 'State 0: count 8 in the first, no run in the second.'
+    compares 10020000 01010000 'neither 0 1 3' "$is_neither" 'State 0: count 0 in the first, no run in the second.' \
+        'State 1: no run in the first, count 0 in the second.' 'State 3: count 1 in the first, count 0 in the second.'
+}
+
+compared_badly() { # NAME LINE..: what the program prints for two positions that differ in the states 0 and 1
+    badly_name=$1
+    shift
+    program_prints "$@"
+    stand_in --compare 10000000 01000000
+    says "$badly_name" 4 "The program's output broke off before its end" "Is the disk full?"
+    holds "$badly_name: nothing of it is shown" test ! -s "$scratch/out"
+}
+
+test_broken_comparison() {
+    compared_badly "a state too few" 'neither 0'
+    compared_badly "a state too many" 'neither 0 1 2'
+    compared_badly "states in another order" 'neither 1 0'
+    compared_badly "the same with states" 'same 0 1'
+    compared_badly "no states where some differ" same
+    compared_badly "a word that is not known" 'unlike 0 1'
+    compared_badly "states without a word" '0 1'
+    compared_badly "two lines" 'neither 0 1' 'neither 0 1'
+    compared_badly "an empty line" ''
+    printf '%s\n' '#!/bin/sh' "printf 'neither 0 1'" >"$kit/program"
+    stand_in --compare 10000000 01000000
+    says "a comparison without its end" 4 "The program's output broke off before its end"
+    printf '%s\n' '#!/bin/sh' >"$kit/program"
+    stand_in --compare 10000000 01000000
+    says "a comparison that prints nothing" 4 "The program's output broke off before its end"
+    printf '%s\n' '#!/bin/sh' 'exit 7' >"$kit/program"
+    stand_in --compare 10000000 01000000
+    says "a comparison that breaks off" 4 "The program broke off."
+}
+
 # ---- output that breaks off
 
 breaks_off() { # NAME
@@ -864,6 +951,9 @@ test_built() {
     call "$root/desk" --check "$root/tables/lamp.table" "$root/tables/lamp.rows" 1
     says "the program for rows is built" 0 'k 1 code 0 '
     [ "$status" -eq 0 ] || finish
+    call "$root/desk" --compare 00000000 00000000
+    says "the program for two positions is built" 0 "$is_same"
+    [ "$status" -eq 0 ] || finish
 }
 
 test_tables() {
@@ -994,6 +1084,40 @@ test_checks() {
         "The record is 4112, line 13 of $asked (record 12, counted from 0)."
 }
 
+# What the program for two positions prints, and what ./desk --compare says of it.
+compared() { # FIRST SECOND LINE TEXT..
+    compared_name="$1 and $2 with the program"
+    echo "$3" >"$scratch/line"
+    call "$root/tools/program" "$root"/target/desk/compare.* "$1" "$2"
+    gives "what is printed for $compared_name" 0 "$scratch/line"
+    call "$root/desk" --compare "$1" "$2"
+    shift 2
+    says "$compared_name" 0 "$@"
+}
+
+test_compares() {
+    compared 10230000 10230000 same "$is_same"
+    compared 10230000 10240001 'below 3 7' 'State 3: count 2 in the first, count 3 in the second.' \
+        'State 7: no run in the first, count 0 in the second.'
+    compared 10240001 10230000 'above 3 7' 'State 3: count 3 in the first, count 2 in the second.'
+    compared 10000000 01000000 'neither 0 1' 'State 1: no run in the first, count 0 in the second.'
+    compared 99999999 00000000 'above 0 1 2 3 4 5 6 7' 'State 7: count 8 in the first, no run in the second.'
+    compared 01234567 76543210 'neither 0 1 2 3 4 5 6 7' 'State 3: count 2 in the first, count 3 in the second.'
+    call "$root/desk" --compare 01200000 11120000
+    shown '\(neither .*\|Neither .*\|Whether .*\|State [0-7]: .*\)' >"$scratch/said"
+    gives "docs/TABLES.md shows a comparison" 0 "$scratch/said"
+    compared 01200000 10220000 'neither 0 1 3' 'State 1: count 0 in the first, no run in the second.'
+    compared 01200000 22230000 'below 0 1 3' "$is_below"
+    for word in '' 0000000 000000000 0000000a '0000 000'; do
+        call "$root/tools/program" "$root"/target/desk/compare.* "$word" 00000000
+        says "the program for '$word'" 0 'The first word is not a position: eight digits, one for each state'
+        holds "it prints nothing for '$word'" test ! -s "$scratch/out"
+        call "$root/tools/program" "$root"/target/desk/compare.* 00000000 "$word"
+        says "the program for '$word' as the second" 0 'The second word is not a position: eight digits, one for each state'
+        holds "it prints nothing for '$word' as the second" test ! -s "$scratch/out"
+    done
+}
+
 test_refusals() {
     : >"$asked"
     answers "an empty file" 3 'k 0 code 4 place 0 ' 'code 4, LENGTH'
@@ -1047,6 +1171,9 @@ test_bad_rows_text
 test_rows_words
 test_rows_form
 test_rows_letters
+test_bad_positions
+test_positions
+test_broken_comparison
 test_broken_output
 test_building
 test_failed_check
@@ -1062,5 +1189,6 @@ test_tables
 test_examples
 test_joins
 test_checks
+test_compares
 test_refusals
 finish

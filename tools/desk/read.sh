@@ -63,22 +63,30 @@ write_bytes() { # NUMBER
 # How many inputs the first table has: one more than the largest letter of its edges on inputs.
 inputs() { awk '$2 == 4 && $4 + 1 > most { most = $4 + 1 } END { print most + 0 }' "$scratch/1.records"; }
 
+# Runs a program with these words and keeps what it prints.
+run_program() { # PROGRAM [WORD..]
+    ready "$1"
+    shift
+    "$root/tools/program" "$program" "$@" >"$scratch/answer" || case $? in
+    127) give_up "The program could not be started. Why stands above." ;;
+    *) give_up "The program broke off. This is a fault of the program and not of what it was given; please report it." ;;
+    esac
+}
+
+# Reads what the program printed and keeps what awk makes of it, which fails unless the output is whole.
+read_answer() { # WORD.. of awk
+    { [ -z "$(tail -c 1 "$scratch/answer")" ] && awk "$@" "$scratch/answer"; } >"$scratch/read" || give_up \
+        "The program's output broke off before its end, so none of it is shown. Is the disk full? If it is not, please report this."
+}
+
 # Runs a program on the files and reads the last answer it printed into k, code, place, which, rounds, winners and start.
 ask() { # PROGRAM FIELDS [WORD..]
-    ready "$1"
-    fields=$2
+    name=$1 fields=$2
     shift 2
-    "$root/tools/program" "$program" "$@" <"$scratch/1.bytes" >"$scratch/answer" || case $? in
-    127) give_up "The program could not be started. Why stands above." ;;
-    *) give_up "The program broke off. This is a fault of the program and not of the table; please report it." ;;
-    esac
-    {
-        [ -z "$(tail -c 1 "$scratch/answer")" ] && awk -v fields="$fields" -v inputs="$(inputs)" -v least="$least" -v most="$most" \
-            -f "$tools/answer.awk" "$scratch/answer"
-    } >"$scratch/fields" || give_up \
-        "The program's output broke off before its end, so none of it is shown. Is the disk full? If it is not, please report this."
+    run_program "$name" "$@" <"$scratch/1.bytes"
+    read_answer -v fields="$fields" -v inputs="$(inputs)" -v least="$least" -v most="$most" -f "$tools/answer.awk"
     # shellcheck disable=SC2034
-    read -r k code place which rounds winners start <"$scratch/fields"
+    read -r k code place which rounds winners start <"$scratch/read"
 }
 
 # 0 done, 1 no controller can be made or the rows are wrong, 3 refused
