@@ -1,8 +1,8 @@
 #!/bin/sh
-# tests/readme.sh: what README.md shows is so: the table and the answer of its example, the check of a maker's rows, and the programs in C
-# and Rust, which compile, run and print what it says by its own commands; and every file it names is there. Where the machine is not
-# x86-64, the commands for x86-64 are not run, and the Rust program is compiled but not linked: a line 'skipped: ..' says so. Needs
-# target/staticlib/libcalls.a ('rt staticlib calls' writes it). Prints last 'N passed, M failed'.
+# tests/readme.sh: what README.md shows is so: the table and the answer of its example, the check of a maker's rows, two positions that are
+# compared, and the programs in C and Rust, which compile, run and print what it says by its own commands; and every file it names is
+# there. Where the machine is not x86-64, the commands for x86-64 are not run, and the Rust program is compiled but not linked: a line
+# 'skipped: ..' says so. Needs target/staticlib/libcalls.a ('rt staticlib calls' writes it). Prints last 'N passed, M failed'.
 set -u
 cd "$(dirname "$0")/.." || exit 2
 # shellcheck disable=SC1091
@@ -42,6 +42,10 @@ holds "the answer is what ./desk --plain says" diff "$scratch/said" tests/expect
 set_in 'k [0-9] code [0-9] place [0-9]' 'Yes: .*' 'Pass the rows .*' >"$scratch/answer"
 holds "what checking rows prints is shown" test "$(wc -l <"$scratch/answer")" -eq 3
 holds "./desk --check" prints '\./desk --check .*'
+
+set_in 'below [0-7].*' 'The first is below .*' 'If the rules .*' 'State [0-7]: .*' >"$scratch/answer"
+holds "what comparing positions prints is shown" test "$(wc -l <"$scratch/answer")" -eq 5
+holds "./desk --compare" prints '\./desk --compare .*'
 
 text_in c >"$scratch/c"
 holds "the C text is of tests/c/example.c" in_order "$scratch/c" tests/c/example.c

@@ -14,12 +14,16 @@
 //!                                   the negative control: spoilt answers, each of which must be caught
 //!     second --desk 'tools/program desk' --cases 100
 //!                                   the desk program's text, on stored tables and 100 others
+//!     second --compare 'tools/program compare' --cases 1000
+//!                                   the program for two positions, on 1,000 pairs of words
+//!     second --compare 'tools/program compare' --spoil
+//!                                   its negative control
 //!
 //! rules/ is what the documents say of records, marks, starts, rows and answers; engines/ solves, in two
 //! ways; follow/ follows rows, in two ways; play/ plays what was solved, both sides, and rows from
 //! elsewhere; call.rs says what a call is and calls/ has one file for each, or a folder; laws/ is demand 3,
 //! and what is said of rows and of starts; make/ draws tables and rows; session.rs puts calls and counts;
-//! spoil/ is the negative control.
+//! spoil/ is the negative control; desk.rs and positions/ run programs of the desk.
 //! A new call is a file in calls/, its line in calls/mod.rs and its wrapper in tests/c, in the operations
 //! of its archive.
 
@@ -34,6 +38,7 @@ mod least;
 mod make;
 mod options;
 mod play;
+mod positions;
 mod proved;
 mod rules;
 mod session;
@@ -43,6 +48,7 @@ mod vectors;
 
 use desk::Desk;
 use options::Options;
+use positions::Positions;
 use proved::Proved;
 use session::{Seen, Session};
 use std::io;
@@ -101,10 +107,22 @@ fn compare_desk(line: &str, options: &Options) -> io::Result<Count> {
     Ok((desk.passed, desk.failed))
 }
 
+fn compare_positions(line: &str, options: &Options) -> io::Result<Count> {
+    if options.spoil {
+        return positions::spoil::run(line, options.seed);
+    }
+    let cases = options.cases.unwrap_or(positions::CASES);
+    println!("seed {} cases {cases}", options.seed);
+    let mut positions = Positions::new(line);
+    positions.random(options.seed, cases)?;
+    Ok((positions.passed, positions.failed))
+}
+
 fn compare(options: &Options) -> io::Result<Count> {
-    match (&options.desk, &options.calls) {
-        (Some(line), _) => compare_desk(line, options),
-        (None, Some(line)) if options.spoil => Ok(spoil::run(line, options.seed)),
+    match (&options.desk, &options.compare, &options.calls) {
+        (Some(line), _, _) => compare_desk(line, options),
+        (None, Some(line), _) => compare_positions(line, options),
+        (None, None, Some(line)) if options.spoil => Ok(spoil::run(line, options.seed)),
         _ => Ok(compare_calls(options)),
     }
 }

@@ -7,14 +7,17 @@ pub struct Options {
     pub cases: Option<u64>,
     pub calls: Option<String>,
     pub desk: Option<String>,
+    /// The program for two positions.
+    pub compare: Option<String>,
     pub spoil: bool,
     /// Whether all that came up is printed.
     pub seen: bool,
 }
 
 pub fn read() -> Result<Options, String> {
-    let (calls, desk, cases) = (None, None, None);
-    let mut options = Options { seed: SEED, cases, calls, desk, spoil: false, seen: false };
+    let (cases, calls, desk, compare) = (None, None, None, None);
+    let (spoil, seen) = (false, false);
+    let mut options = Options { seed: SEED, cases, calls, desk, compare, spoil, seen };
     let mut words = std::env::args().skip(1);
     while let Some(word) = words.next() {
         let mut next = || words.next().ok_or(format!("{word} needs a word after it"));
@@ -24,6 +27,7 @@ pub fn read() -> Result<Options, String> {
             "--cases" => options.cases = Some(number(next()?)?),
             "--calls" => options.calls = Some(next()?),
             "--desk" => options.desk = Some(next()?),
+            "--compare" => options.compare = Some(next()?),
             "--spoil" => options.spoil = true,
             "--seen" => options.seen = true,
             _ => return Err(format!("unknown word: {word}")),
