@@ -1,6 +1,8 @@
 // The desk program for a controller from elsewhere. 'accept TABLE ROWS K' checks the rows in one file of
 // bytes against the table in another for the patience count K, and prints K with the answer's code and
 // place: its other fields are 0.
+#![tactic(auto)]
+
 use libc::STDERR_FILENO;
 use meaning::Answer;
 

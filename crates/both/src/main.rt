@@ -2,6 +2,8 @@
 // and the records of the joined table. 'both parts FIRST SECOND' solves the two by parts with N 256 for
 // K = 0, 1, up to 7, stopping after the first code other than 1, and prints what the desk program
 // prints for one table, with the field which.
+#![tactic(auto)]
+
 use libc::STDOUT_FILENO;
 use meaning::Answer;
 use table::record::INPUT;

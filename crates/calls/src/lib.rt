@@ -1,5 +1,7 @@
 // The public calls for C and Rust: numbers and byte slices in, the code out, and the answer laid
 // down as bytes.
+#![tactic(auto)]
+
 pub mod lay;
 
 ghost use Rattle.std.specs.Prelude.{◌≡◌, cond, ltb};

@@ -2,6 +2,8 @@
 // three hard tables, and joins and parts, and prints answers and bytes; then checks controllers from
 // elsewhere; then tables with marked start states; and last compares positions. What it prints is held to
 // the stored output.
+#![tactic(auto)]
+
 mod calls;
 mod joins;
 mod makers;

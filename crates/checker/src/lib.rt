@@ -1,4 +1,6 @@
 // Whether following rows, whoever made them, keeps every run of a table to K.
+#![tactic(auto)]
+
 pub mod keep;
 pub mod lead;
 pub mod most;

@@ -1,5 +1,7 @@
 // The desk program for two positions of one side. 'compare A B' takes each as eight digits in the winners'
 // form, and prints how the first stands to the second: a word, and the states whose counts differ.
+#![tactic(auto)]
+
 ghost use Rattle.std.specs.Prelude.{◌≡◌, ◌<◌};
 ghost use Rattle.meaning.specs.Counting.{count as count_of};
 ghost use Rattle.masks.specs.Mask.{mask};

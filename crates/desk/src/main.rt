@@ -1,5 +1,7 @@
 // The desk program: reads up to 4,161 bytes of a table from standard input and solves it with N 256
 // for K = 0, 1, up to 7, stopping after the first code other than 1.
+#![tactic(auto)]
+
 use libc::STDIN_FILENO;
 use meaning::Answer;
 use table::record::INPUT;

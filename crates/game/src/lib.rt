@@ -1,4 +1,6 @@
 // The game: from a table to the verdict, with the winners and the controller's rows written.
+#![tactic(auto)]
+
 pub mod finish;
 pub mod stage;
 

@@ -1,5 +1,7 @@
 // Two tables joined into one: the second's states are renumbered upward by the first's counts. And
 // two tables solved by parts: each alone, and the joined one held to the pairs of their winners.
+#![tactic(auto)]
+
 pub mod beside;
 pub mod stage;
 

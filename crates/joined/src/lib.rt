@@ -1,5 +1,7 @@
 // The joined table of two that may be joined: kind by kind, the first table's records and then the
 // second's, renumbered.
+#![tactic(auto)]
+
 pub mod pair;
 
 ghost use Rattle.std.specs.Prelude.{◌≡◌, [], ◌∷◌, ◌+◌, ◌≤◌, length};

@@ -1,5 +1,7 @@
 // What the programs at the desk print: a number by its name, and bytes as lines of four numbers. The
 // calls that give these numbers are proved elsewhere; here no more is proved than that it is safe.
+#![tactic(auto)]
+
 use libc::STDOUT_FILENO;
 
 // One number, by its name.

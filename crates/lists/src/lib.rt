@@ -1,2 +1,4 @@
 // Lists of positions in arrays.
+#![tactic(auto)]
+
 pub mod words;

@@ -1,4 +1,6 @@
 // Eight bits, one for each state: the one test of one bit, and a bit set.
+#![tactic(auto)]
+
 ghost use Rattle.std.specs.Prelude.{◌≡◌, ◌||◌, eqb};
 ghost use Rattle.meaning.specs.Lists.{some};
 ghost use Rattle.meaning.specs.Table.{bit};

@@ -1,5 +1,7 @@
 // The types that every call answers with, the documents' number for each of their cases, how two positions
 // compare, and what tables and rows are both asked: their size.
+#![tactic(auto)]
+
 ghost use Rattle.std.specs.Prelude.{◌≡◌, true};
 ghost use Rattle.meaning.specs.Checks.{check, wrong_size};
 ghost use Rattle.meaning.specs.Compared.{at_most};

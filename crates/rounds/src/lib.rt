@@ -1,5 +1,7 @@
 // The rounds: from the list of W(r) to that of W(r + 1) by each input and each output in turn, until
 // the list repeats.
+#![tactic(auto)]
+
 ghost use Rattle.std.specs.Prelude.{◌≤◌, ◌<◌, length};
 ghost use Rattle.meaning.specs.Rounds.{all_safe};
 ghost use Rattle.meaning.specs.Table.{Small};

@@ -1,5 +1,7 @@
 // Controller rows as bytes, for themselves: whether they are well formed, how many states and inputs
 // they have, a state's output and its next state for an input. Nothing of the game.
+#![tactic(auto)]
+
 ghost use Rattle.std.specs.Prelude.{◌≡◌, suc, ◌≤◌, ◌<◌, ◌-◌, length};
 ghost use Rattle.meaning.specs.Lists.{each, every};
 ghost use Rattle.meaning.specs.Play.{rows_in, row as row_at, row_output, row_next};

@@ -1,4 +1,6 @@
 // The steps of a table that was read: one letter's half of a round, and a whole round of a position.
+#![tactic(auto)]
+
 ghost use Rattle.std.specs.Prelude.{◌≡◌, ◌+◌, ◌*◌, get_or};
 ghost use Rattle.meaning.specs.Lists.{tab};
 ghost use Rattle.meaning.specs.Table.{on_output, on_input};

@@ -1,4 +1,6 @@
 // From a table's bytes to a refusal with its place, or to the table in masks and marks.
+#![tactic(auto)]
+
 pub mod checks;
 pub mod read;
 pub mod record;

@@ -1,6 +1,8 @@
 // The maximal ones of the lesser counts of all pairs of two lists, and of two lists together. A
 // candidate that a kept position covers is passed over; any other is climbed to a maximal one and
 // kept. So each kept one is maximal, and the room's next one is FULL.
+#![tactic(auto)]
+
 ghost use Rattle.std.specs.Prelude.{◌≡◌, true, [], map, reverse, ◌≤◌, ◌-◌, length};
 ghost use Rattle.meaning.specs.Lists.{keep};
 ghost use Rattle.meaning.specs.Counting.{below, covered};

@@ -1,4 +1,6 @@
 // The winners' bytes and the controller's rows, from the list of winners.
+#![tactic(auto)]
+
 ghost use Rattle.std.specs.Prelude.{◌≡◌, [], ◌∷◌, ◌*◌, ◌≤◌, ◌<◌, length};
 ghost use Rattle.meaning.specs.Lists.{written};
 ghost use Rattle.meaning.specs.Written.{winners_bytes, covering as covering_of, output_of, row_bytes, rows_of_state, leads_back, rows_from};
