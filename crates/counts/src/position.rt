@@ -10,7 +10,7 @@ ghost use Rattle.counts.specs.Words.{counts_in};
 use crate::count;
 
 // One letter's half of a round: for each source a byte of targets, for each target its mark.
-#[derive(Drop)]
+#[derive(Clone, Copy)]
 pub struct Half {
     pub sources: usize,
     pub targets: usize,

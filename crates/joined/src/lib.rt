@@ -19,7 +19,7 @@ use table::record;
 use table::record::Record;
 
 // How far the states of each side are renumbered upward.
-#[derive(Drop)]
+#[derive(Clone, Copy)]
 struct Sides {
     controllers: u8,
     worlds: u8,

@@ -7,14 +7,14 @@ use table::{Checked, Reading, Table, checks};
 
 // What they come to: the refusal of the first that fails, its place, and which: 1 or 2 for a fault
 // of that table, and 0 for 13 and 14.
-#[derive(Drop)]
+#[derive(Clone, Copy)]
 pub enum Paired {
     Passes,
     Fails(Refusal, usize, usize),
 }
 
 // Two tables, checked and read in one go: each is there if it passes 4 to 10, and else none.
-#[derive(Drop)]
+#[derive(Clone, Copy)]
 pub struct Readings {
     pub paired: Paired,
     pub first: Table,

@@ -9,7 +9,7 @@ ghost use Rattle.meaning.specs.Answers.{number_of, code_of, start_of, refused as
 
 // "Every answer carries a code, a place, which .., rounds, number of winners, start. The verdict
 // holds the controller's start, unrealizable, or the refusal's own case"
-#[derive(Drop)]
+#[derive(Clone, Copy)]
 pub struct Answer {
     pub verdict: Verdict,
     pub place: usize,
@@ -18,7 +18,7 @@ pub struct Answer {
     pub winners: usize,
 }
 
-#[derive(Drop)]
+#[derive(Clone, Copy)]
 pub enum Verdict {
     Realizable(usize),
     Unrealizable,
@@ -26,7 +26,7 @@ pub enum Verdict {
 }
 
 // The numbered reasons, from 2 on, in the order of their numbers.
-#[derive(Drop)]
+#[derive(Clone, Copy)]
 pub enum Refusal {
     Bound,
     Room,
@@ -45,7 +45,7 @@ pub enum Refusal {
 }
 
 // How one position stands to another, of the same side.
-#[derive(Drop)]
+#[derive(Clone, Copy)]
 pub enum Comparison {
     Same,
     Below,

@@ -16,7 +16,7 @@ use table::Table;
 use tops::Found;
 
 // How the rounds end: FULL, or after so many rounds with so many winners.
-#[derive(Drop)]
+#[derive(Clone, Copy)]
 pub enum Settled {
     Full,
     After(usize, usize),

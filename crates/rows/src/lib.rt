@@ -8,7 +8,7 @@ ghost use Rattle.meaning.specs.Play.{rows_in, row as row_at, row_output, row_nex
 ghost use Rattle.meaning.specs.Controller.{in_order, input_goes_on, output_stays, goes_on, leads_on, inputs_in, states_in, well_formed};
 ghost use Rattle.rows.specs.Placed.{row_of, Marked, Placed, Ready};
 
-#[derive(Drop)]
+#[derive(Clone, Copy)]
 pub struct Row {
     pub state: u8,
     pub output: u8,

@@ -10,7 +10,7 @@ use meaning::Refusal;
 // A turn-based universal automaton. A mark is 1 for a marked state; bit q of `starts` is set if
 // state q is a start; bit q of byte l * 8 + p of the targets is set if an edge on letter l leads
 // from state p to state q.
-#[derive(Drop)]
+#[derive(Clone, Copy)]
 pub struct Table {
     pub controllers: usize,
     pub worlds: usize,
@@ -24,14 +24,14 @@ pub struct Table {
 }
 
 // What checks 4 to 10 come to: the refusal of the first that fails, and its place.
-#[derive(Drop)]
+#[derive(Clone, Copy)]
 pub enum Checked {
     Passes,
     Fails(Refusal, usize),
 }
 
 // A table's bytes, checked and read in one go: the table is there if they pass, and else none.
-#[derive(Drop)]
+#[derive(Clone, Copy)]
 pub struct Reading {
     pub checked: Checked,
     pub table: Table,

@@ -4,7 +4,7 @@ ghost use Rattle.meaning.specs.Records.{records_of, at as record_at, outside as 
 ghost use Rattle.meaning.specs.Table.{mark_in, start_in};
 ghost use Rattle.table.specs.Packed.{record_in};
 
-#[derive(Drop)]
+#[derive(Clone, Copy)]
 pub struct Record {
     pub kind: u8,
     pub from: u8,

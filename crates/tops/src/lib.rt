@@ -17,7 +17,7 @@ use counts::word;
 use lists::words;
 
 // How many members a list came to, or that there were more than the room.
-#[derive(Drop)]
+#[derive(Clone, Copy)]
 pub enum Found {
     Number(usize),
     Full,

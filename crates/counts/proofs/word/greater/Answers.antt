@@ -1,0 +1,15 @@
+-- `greater`: the flags spread over their bytes choose each byte from the word whose count is the greater; and the spread flags fit, since
+-- there are at most eight. Assumes nothing.
+use native.Mathlib.Omega.{arith}
+use lib.Bits.{and_le_l}
+use Rattle.counts.proofs.Bytes.{flags-le, greater_words}
+use Rattle.counts.proofs.word.greater.Goals as goal
+
+pub overflow_mul-mask : goal.overflow_mul-mask
+overflow_mul-mask c = record { fits = omega (arith, c.at_most.ensures, flags-le 8 c.args.a c.args.b) }
+
+pub overflow_sub-result : goal.overflow_sub-result
+overflow_sub-result c = and_le_l _ _
+
+pub returns : goal.returns
+returns c = rw c.at_most.ensures (greater_words c.args.a c.args.b)
