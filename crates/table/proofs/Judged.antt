@@ -14,7 +14,6 @@ use Rattle.meaning.specs.Records.{records_of}
 use Rattle.meaning.specs.Table.{table_of}
 use Rattle.meaning.specs.Checks.{Check, bound, judge, table_checks}
 use Rattle.meaning.specs.Checks as N
-use Rattle.meaning.proofs.Checks as C
 use Rattle.meaning.proofs.Checks.{Failure, first_failure, judge-fails, judge-passes, judge-append}
 use Rattle.meaning.proofs.Sound.{other_which}
 use Rattle.table.specs.declared.Checked.{Checked}

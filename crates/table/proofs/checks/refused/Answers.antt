@@ -4,12 +4,8 @@ use Rattle.meaning.specs.Records.{of_kind}
 use Rattle.meaning.specs.Table.{table_of, letters, mark_in, start_in, mark_of, starts_of, edge_of}
 use Rattle.masks.specs.Mask.{mask}
 use Rattle.table.specs.Packed.{packed, marks, targets}
-use Rattle.table.proofs.checks.refused.Statement.{statement}
-use Rattle.table.proofs.checks.refused.Tie as tie
+use Rattle.table.proofs.checks.refused.Goals as goal
 
-returns : tie.Need-returns
+pub returns : goal.returns
 unfolding packed table_of marks targets mask letters mark_in start_in mark_of starts_of edge_of of_kind
 returns c = refl
-
-pub refused-spec : {M : Type 1} → statement M
-refused-spec = tie.close (tie.spec returns)

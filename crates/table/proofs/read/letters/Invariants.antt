@@ -1,0 +1,14 @@
+-- `letters` keeps one more than the largest letter so far. The loop's invariant: the count is that of the first i records. The measure is
+-- the number of records that are left. Assumes nothing.
+use mathlib.Core.Path.{◌≡◌}
+use Prim.Native.Nat.{◌≤◌, ◌-◌, ◌/◌}
+use lib.ListN.{length, take}
+use Rattle.meaning.specs.Records.{records_of}
+use Rattle.meaning.specs.Table.{letters}
+use Rattle.table.proofs.read.letters.Given as goal
+
+abbrev pub invariant-loop-i : goal.invariant-loop-i
+invariant-loop-i l = (l.i ≤ length l.bytes / 4) × (l.count ≡ letters l.kind (take l.i (records_of l.bytes)))
+
+abbrev pub decreases-loop-i : goal.decreases-loop-i
+decreases-loop-i l = length l.bytes / 4 - l.i

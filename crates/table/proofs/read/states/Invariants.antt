@@ -1,0 +1,13 @@
+-- `states` counts the records of a kind. The loop's invariant: the count is that of the first i records. The measure is the number of
+-- records that are left. Assumes nothing.
+use mathlib.Core.Path.{◌≡◌}
+use Prim.Native.Nat.{◌≤◌, ◌-◌, ◌/◌}
+use lib.ListN.{length, take}
+use Rattle.meaning.specs.Records.{records_of, of_kind}
+use Rattle.table.proofs.read.states.Given as goal
+
+abbrev pub invariant-loop-i : goal.invariant-loop-i
+invariant-loop-i l = (l.i ≤ length l.bytes / 4) × (l.count ≡ length (of_kind l.kind (take l.i (records_of l.bytes))))
+
+abbrev pub decreases-loop-i : goal.decreases-loop-i
+decreases-loop-i l = length l.bytes / 4 - l.i
