@@ -1,6 +1,6 @@
 -- The answer of a function that fills an array says how many members the array holds, or that there were more than the room: by the test
 -- that the answer is. Assumes nothing.
-use mathlib.Core.Path.{◌≡◌, sym, ap, ◌∙◌}
+use mathlib.Core.Path.{◌≡◌, refl, sym, ap, ◌∙◌}
 use mathlib.Core.List.{List}
 use Prim.Native.Nat.{ℕ, ◌≤◌, ◌<◌}
 use native.Mathlib.Decide.{dec_lt}
@@ -48,3 +48,8 @@ module _ {room : ℕ} {l : List Position} {out : List ℕ} {found : Found} (h : 
       go (no b) =
           let s : length l ≡ n = cc (h.answer, e, found_number room l (omega arith)) in
           (omega arith, rw s at (h.held (omega arith)))
+
+-- of the two answers, one that is no number is FULL
+pub full-otherwise : (found : Found) → ((n : ℕ) → found ≡ Number n → ⊥) → found ≡ Full
+full-otherwise (Number n) none = absurd (none n refl)
+full-otherwise Full none = refl
