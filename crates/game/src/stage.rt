@@ -22,7 +22,7 @@ pub fn stage(
     winners: &mut [u8],
     controller: &mut [u8],
 ) -> Answer
-    requires k_bound { (k ≤ 7) × ((room_for room winners.old controller.old).failed ≡ false) × Fit (table_in table) }
+    requires bounds { (k ≤ 7) × ((room_for room winners.old controller.old).failed ≡ false) × Fit (table_in table) }
     requires list { (n ≤ length first.now) × FirstList k (table_in table) (members first.now n) }
     ensures { solved result winners.new controller.new ≡ staged k room (table_in table)
         (covered_by (table_in table).controllers (members first.now n)) winners.old controller.old }
