@@ -39,7 +39,8 @@ module _ (K : ℕ) (next : ℕ → ℕ) (after : ℕ → Position) (most : List 
         ⊎ ((next n ≡ s) × (count (counts_at most₂ s) q ≡ count (after n) q))
     from s q =
         at_each
-        (λ s. (count (counts_at most₂ s) q ≡ count (counts_at most₁ s) q) ⊎ ((next n ≡ s) × (count (counts_at most₂ s) q ≡ count (after n) q)))
+        (λ s. (count (counts_at most₂ s) q ≡ count (counts_at most₁ s) q)
+        ⊎ ((next n ≡ s) × (count (counts_at most₂ s) q ≡ count (after n) q)))
         (next n) (⊎_elim (λ a. inl a) (λ b. inr (refl, b)) (either _ _ _ (raised.greatest q)))
         (λ s d. inl (ap (λ (F : Position). count F q) (raised.others s d).0)) s
       where
