@@ -78,32 +78,30 @@ kit=$scratch/kit
 tree=$scratch/tree
 plain=$scratch/plain
 
-# A kit whose loader starts anything, and whose rt writes down that it was called and puts into target/bin/NAME what runs
-# $kit/program. Before it ends it does what is asked by a file: $kit/refuses to fail though the program is there, $kit/slow to take a while,
-# $kit/edits to change a source meanwhile.
+# A kit whose rt writes down what it was called for, and with which crate, and puts for a program into out/NAME what runs $kit/program.
+# Before it ends it does what is asked by a file: $kit/refuses to fail at the crate that it names, though a program is there then, and at a
+# program $kit/slow to take a while, and $kit/edits to change a source meanwhile.
 make_kit() {
-    toolchain=$kit/on/$(uname -m)/toolchain
-    mkdir -p "$kit/bin" "$toolchain/lib" "$toolchain/bin"
+    mkdir -p "$kit/bin"
     echo 'stand-in' >"$kit/KIT-ID"
-    printf '%s\n' '#!/bin/sh' 'shift 2' 'exec "$@"' >"$toolchain/lib/ld-linux-x86-64.so.2"
     cat >"$kit/bin/rt" <<'TEXT'
 #!/bin/sh
 kit=$(cd "$(dirname "$0")/.." && pwd)
-echo "$*" >>"$kit/calls"
-mkdir -p target/bin target/log
-echo 'rt: part proved (1 s)' >target/log/part.out
-: >"target/log/$2.out"
-printf '%s\n' '#!/bin/sh' "exec '$kit/program' \"\$@\"" >"target/bin/$2"
-chmod +x "target/bin/$2"
-[ ! -f "$kit/edits" ] || echo '// edited' >>"crates/$2/src/main.rt"
-[ ! -f "$kit/slow" ] || { sleep "$(cat "$kit/slow")" & wait; }
-if [ -f "$kit/refuses" ]; then
-    echo "rt: $2 NOT PROVED"
+crate=${PWD##*/}
+echo "$* $crate" >>"$kit/calls"
+if [ "$1" = run ]; then
+    mkdir -p out
+    printf '%s\n' '#!/bin/sh' "exec '$kit/program' \"\$@\"" >"out/$crate"
+    chmod +x "out/$crate"
+    [ ! -f "$kit/edits" ] || echo '// edited' >>src/main.rt
+    [ ! -f "$kit/slow" ] || { sleep "$(cat "$kit/slow")" & wait; }
+fi
+if [ -f "$kit/refuses" ] && [ "$(cat "$kit/refuses")" = "$crate" ]; then
+    echo "fn $crate::main: not proved"
     exit 1
 fi
-echo "rt: $2 proved (1 s)" >"target/log/$2.out"
 TEXT
-    chmod +x "$toolchain/lib/ld-linux-x86-64.so.2" "$kit/bin/rt"
+    chmod +x "$kit/bin/rt"
 }
 
 # A repository with the scripts as they are and nothing built.
@@ -112,16 +110,15 @@ make_tree() {
         "$tree/crates/accept/src" "$tree/crates/compare/src" "$tree/crates/other/src"
     cp -R "$root/desk" "$root/tools" "$tree"
     cp "$root/docs/CARD.md" "$tree/docs"
-    printf '%s\n' '# a comment' 'part:' 'desk: part io' 'both: part io' 'accept: part io' 'compare: part io' 'other: part' \
-        >"$tree/crates.txt"
+    printf '%s\n' '# a comment' 'part:' 'desk: part' 'both: part' 'accept: part' 'compare: part' 'other: part' >"$tree/crates.txt"
     for crate in part desk both accept compare other; do echo 'fn main() {}' >"$tree/crates/$crate/src/main.rt"; done
 }
 
 # A PATH of the usual tools alone: no rt, no Graphviz.
 make_plain() {
     mkdir "$plain"
-    for tool in sh awk cat chmod cp cut dirname find flock grep head mkdir mktemp mv od readlink rm sed setsid sha256sum sleep sort tail \
-        touch tr uname wc; do
+    for tool in sh awk cat chmod cmp cp cut dirname find flock grep head mkdir mktemp mv od readlink rm sed setsid sha256sum sleep sort \
+        tail touch tr uname wc; do
         ln -s "$(command -v "$tool")" "$plain/$tool"
     done
 }
@@ -731,9 +728,10 @@ test_broken_output() {
 
 # ---- building and running
 
-builds() { # NAME TIMES: how often rt was called, and only so
-    times=$(grep -cx 'check desk' "$kit/calls" 2>/dev/null)
-    if [ "$status" -eq 0 ] && [ "${times:-0}" -eq "$2" ]; then
+builds() { # NAME TIMES: how often rt was called for the program, and as often for the library below it
+    times=$(grep -cx 'run desk' "$kit/calls" 2>/dev/null)
+    below=$(grep -cx 'lib part' "$kit/calls" 2>/dev/null)
+    if [ "$status" -eq 0 ] && [ "${times:-0}" -eq "$2" ] && [ "${below:-0}" -eq "$2" ]; then
         pass "$1"
     else
         fail "$1" "status $status, built ${times:-0} times: $(cat "$scratch/err")"
@@ -764,7 +762,7 @@ test_building() {
     edit crates/part/src/main.rt
     stand_in "$owed"
     builds "a program is old when what it is made of has changed" 1
-    sed 's/^part:/part: libc/' "$tree/crates.txt" >"$scratch/crates.txt"
+    sed 's/^part:/part: hex/' "$tree/crates.txt" >"$scratch/crates.txt"
     cp "$scratch/crates.txt" "$tree/crates.txt"
     stand_in "$owed"
     builds "a program is old when a crate of its uses another" 1
@@ -781,14 +779,19 @@ test_building() {
 # Nothing is run but a program whose whole check has passed.
 test_failed_check() {
     edit crates/desk/src/main.rt
-    : >"$kit/refuses"
+    echo desk >"$kit/refuses"
     rm -f "$scratch/received"
     for times in first second; do
         stand_in "$owed"
-        says "a check that fails, for the $times time" 4 "rt: desk NOT PROVED" "The check failed"
+        says "a check that fails, for the $times time" 4 "fn desk::main: not proved" "rt: desk NOT PROVED" "The check failed"
         holds "neither the old program nor the new is run then" test ! -e "$scratch/received"
     done
-    holds "though the new one is there" test -f "$tree/target/bin/desk"
+    holds "though the new one is there" test -f "$tree/crates/desk/out/desk"
+    echo part >"$kit/refuses"
+    rm "$kit/calls"
+    stand_in "$owed"
+    says "a check that fails at what the program uses" 4 "rt: part NOT PROVED" "The check failed"
+    holds "the program is not even built then" test "$(cat "$kit/calls")" = 'lib part'
     rm "$kit/refuses" "$kit/calls"
     stand_in "$owed"
     builds "a check that passes next time" 1
@@ -799,6 +802,34 @@ test_failed_check() {
     rm "$kit/edits" "$kit/calls"
     stand_in "$owed"
     builds "the check is made again then" 1
+}
+
+# A program that does other than what is stored beside it does not pass.
+test_stored_run() {
+    beside=$tree/crates/desk
+    mkdir "$beside/data"
+    echo text >"$beside/data/file"
+    printf '%s\n' 'one word' two >"$beside/args"
+    echo input >"$beside/stdin"
+    printf '%s\n' 2 'one word' two input text >"$beside/stdout"
+    # shellcheck disable=SC2016
+    printf '%s\n' '#!/bin/sh' '[ $# -eq 0 ] || { printf "%s\n" "$#" "$@" && cat && cat file && exit; }' 'cat >/dev/null' \
+        "printf '%s\\n' 'k 0 code 0 place 0 rounds 0 winners 1 start 0' '0 1 0 0' '0 1 1 0'" >"$kit/program"
+    stand_in "$owed"
+    builds "a program that prints what is stored beside it" 1
+    echo more >>"$beside/stdout"
+    stand_in "$owed"
+    says "a program that prints something else" 4 "desk is proved, but on what is stored for it" "rt: desk NOT PROVED" "The check failed"
+    printf '%s\n' 2 'one word' two input text >"$beside/stdout"
+    sed 's/exit/exit 3/' "$kit/program" >"$scratch/program"
+    cat "$scratch/program" >"$kit/program"
+    edit crates/desk/src/main.rt
+    stand_in "$owed"
+    says "a program that ends badly" 4 "desk is proved, but on what is stored for it" "The check failed"
+    rm -r "$beside/data" "$beside/args" "$beside/stdin" "$beside/stdout" "$kit/calls"
+    program_prints 'k 0 code 0 place 0 rounds 0 winners 1 start 0' '0 1 0 0' '0 1 1 0'
+    stand_in "$owed"
+    builds "a program with nothing stored beside it" 1
 }
 
 test_broken_off_check() { # SIGNAL
@@ -834,31 +865,49 @@ test_two_at_once() {
 
 test_program() {
     # shellcheck disable=SC2016
-    printf '%s\n' '#!/bin/sh' 'printf "%s\n" "$#" "$@"' 'cat' 'exit 5' >"$tree/target/bin/desk"
-    chmod +x "$tree/target/bin/desk"
+    printf '%s\n' '#!/bin/sh' 'printf "%s\n" "$#" "$@"' 'cat' 'exit 5' >"$tree/crates/desk/out/desk"
     printf '%s\n' 2 'one word' two input >"$scratch/echo"
     echo input >"$scratch/input"
-    call env RATTLE_HOME="$kit" "$tree/tools/program" desk 'one word' two <"$scratch/input"
-    gives "tools/program hands on words, input and status" 5 "$scratch/echo"
-    call env RATTLE_HOME="$kit" "$tree/tools/program" "$tree/target/bin/desk" 'one word' two <"$scratch/input"
+    call env PATH="$plain" "$tree/tools/program" desk 'one word' two <"$scratch/input"
+    gives "tools/program hands on words, input and status, and needs no kit" 5 "$scratch/echo"
+    call "$tree/tools/program" "$tree/crates/desk/out/desk" 'one word' two <"$scratch/input"
     gives "tools/program runs a program by its path" 5 "$scratch/echo"
+    mkdir -p "$tree/target/bin"
+    cp "$tree/crates/desk/out/desk" "$tree/target/bin/elsewhere"
+    call "$tree/tools/program" elsewhere 'one word' two <"$scratch/input"
+    gives "tools/program runs a program of target/bin" 5 "$scratch/echo"
+    printf '%s\n' '#!/bin/sh' 'exit 0' >"$tree/target/bin/desk"
+    chmod +x "$tree/target/bin/desk"
+    call "$tree/tools/program" desk 'one word' two <"$scratch/input"
+    gives "tools/program runs the crate's program where both are there" 5 "$scratch/echo"
+    call "$tree/tools/program" nothing
+    says "tools/program without the program" 127 "there is no program $tree/target/bin/nothing"
+    call "$tree/tools/program" other
+    says "tools/program without the program of a crate" 127 "there is no program $tree/crates/other/out/other; 'rt run'"
+    chmod -x "$tree/target/bin/elsewhere"
+    call "$tree/tools/program" elsewhere
+    says "tools/program with a file that is no program" 127 "may not be run"
+    mkdir "$scratch/elsewhere"
+    printf '%s\n' '#!/bin/sh' 'echo riscv64' >"$scratch/elsewhere/uname"
+    chmod +x "$scratch/elsewhere/uname"
+    call env PATH="$scratch/elsewhere:$plain" "$tree/tools/program" desk
+    says "tools/program on another machine" 127 "programs are for x86-64, and this machine is riscv64"
+}
+
+# Where the kit is.
+test_kit() {
+    echo "$kit" >"$scratch/kit.place"
+    call env RATTLE_HOME="$kit" "$tree/tools/kit"
+    gives "tools/kit by RATTLE_HOME" 0 "$scratch/kit.place"
     mkdir -p "$scratch/links/far"
     ln -s far/rt "$scratch/links/rt"
     ln -s "$kit/bin/rt" "$scratch/links/far/rt"
-    call env PATH="$scratch/links:$plain" RATTLE_HOME= "$tree/tools/program" desk 'one word' two <"$scratch/input"
-    gives "tools/program finds the kit through links" 5 "$scratch/echo"
-    # shellcheck disable=SC2016
-    printf '%s\n' '#!/bin/sh' 'echo emulated' 'exec "$@"' >"$toolchain/bin/qemu-x86_64"
-    chmod +x "$toolchain/bin/qemu-x86_64"
-    call env RATTLE_HOME="$kit" "$tree/tools/program" desk 'one word' two <"$scratch/input"
-    says "tools/program uses the emulator where there is one" 5 emulated 'one word'
-    rm "$toolchain/bin/qemu-x86_64"
-    call env RATTLE_HOME="$kit" "$tree/tools/program" nothing
-    says "tools/program without the program" 127 "there is no program $tree/target/bin/nothing"
-    call env PATH="$plain" RATTLE_HOME= "$tree/tools/program" desk
-    says "tools/program without the kit" 127 "the Rattle kit was not found"
-    call env RATTLE_HOME="$scratch/nowhere" "$tree/tools/program" desk
-    says "tools/program with an empty kit" 127 "has no loader for this machine"
+    (cd "$kit" && pwd -P) >"$scratch/kit.place"
+    call env PATH="$scratch/links:$plain" RATTLE_HOME= "$tree/tools/kit"
+    gives "tools/kit through links" 0 "$scratch/kit.place"
+    : >"$scratch/kit.place"
+    call env PATH="$plain" RATTLE_HOME= "$tree/tools/kit"
+    gives "tools/kit without the kit" 1 "$scratch/kit.place"
 }
 
 # ---- pictures
@@ -1177,10 +1226,12 @@ test_broken_comparison
 test_broken_output
 test_building
 test_failed_check
+test_stored_run
 test_broken_off_check TERM
 test_broken_off_check INT
 test_two_at_once
 test_program
+test_kit
 test_pictures
 test_table_pictures
 test_graphviz

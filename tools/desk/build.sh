@@ -2,8 +2,8 @@
 # A part of ./desk: its programs, each proved and built before it is first run, and never run unless its whole check has passed.
 #
 # A program that has passed stands as target/desk/NAME.SUM, where SUM is taken over all that it is made of. So a program made of anything
-# else is another file, and a new one is put in its place by one move. The kit's own target/bin/NAME is there before its check has
-# ended, and may be there though it failed; it is never run from here.
+# else is another file, and a new one is put in its place by one move. The kit's own crates/NAME/out/NAME may be left from what the
+# sources were before; it is never run from here.
 
 made=$root/target/desk
 proving=
@@ -38,14 +38,14 @@ sum_of() { # NAME
     {
         cat "$home/KIT-ID" 2>/dev/null
         for crate in $(crates_of "$1"); do
-            grep "^$crate:" "$root/crates.txt"
+            grep -E "^$crate( [^:#]*)?:" "$root/crates.txt"
             cd "$root/crates/$crate" || exit
-            find src specs proofs stdin stdout args data -type f -exec sha256sum {} + 2>/dev/null | LC_ALL=C sort
+            find src specs proofs stdin stdout args status data -type f -exec sha256sum {} + 2>/dev/null | LC_ALL=C sort
         done
     } | sha256sum | cut -c 1-16
 }
 
-# Proves and builds a program under a lock. The lock goes to rt with all that it starts, so it is held until the last of them has ended.
+# Proves and builds a program under a lock. The lock goes to all that is started for it, so it is held until the last of them has ended.
 build() { # NAME
     rt=$(command -v rt || command -v "$home/bin/rt") || give_up "The program has to be built, and the kit at $home has no command rt."
     { command -v flock && command -v setsid; } >/dev/null ||
@@ -68,7 +68,8 @@ build() { # NAME
 check() { # NAME
     tell "The program has to be proved and built first, once. This can take some minutes." >&2
     for crate in $(crates_of "$1"); do rm -f "$root/target/log/$crate.out"; done
-    (cd "$root" && exec setsid "$rt" check "$1") >"$scratch/build" 2>&1 </dev/null &
+    # shellcheck disable=SC2046
+    setsid sh "$tools/prove.sh" "$root" "$rt" $(crates_of "$1") >"$scratch/build" 2>&1 </dev/null &
     proving=$!
     said=
     waited=0
@@ -79,14 +80,14 @@ check() { # NAME
     done
     wait "$proving" || {
         proving=
-        tail -n 5 "$scratch/build" >&2
+        cat "$scratch/build" >&2
         give_up "The check failed, so nothing was built and no table was tried. How it ended stands above; target/log/ has all."
     }
     proving=
 }
 
-# Says which crates are being proved and how many are left, when that changes and again after every half minute. A check writes
-# target/log/CRATE.out as it begins with a crate, and its verdict as the last line there.
+# Says which crate is being proved and how many are left, when that changes and again after every half minute. target/log/CRATE.out is
+# there as soon as a crate is begun, and has its verdict as the last line.
 follow() { # NAME
     left=0 now=
     for crate in $(crates_of "$1"); do
@@ -108,9 +109,10 @@ follow() { # NAME
 
 put_in_place() { # NAME
     [ "$(sum_of "$1")" = "$sum" ] || give_up "What the program is made of was changed while it was being proved. Call ./desk again."
-    [ -f "$root/target/bin/$1" ] || give_up "The check passed, but target/bin/$1 is gone. Remove the folder target and call ./desk again."
+    built=$root/crates/$1/out/$1
+    [ -f "$built" ] || give_up "The check passed, but crates/$1/out/$1 is gone. Remove the folder crates/$1/out and call ./desk again."
     rm -f "$made/$1".*
-    { cp "$root/target/bin/$1" "$made/$1.new" && mv "$made/$1.new" "$program"; } || give_up "$program can't be written. Is the disk full?"
+    { cp "$built" "$made/$1.new" && mv "$made/$1.new" "$program"; } || give_up "$program can't be written. Is the disk full?"
 }
 
 # An interrupt: ends a check that is under way, with all that it started.
