@@ -1,7 +1,7 @@
 /* The four calls of the desk for C: solve a rule table, join two, solve two by parts, and check
    controller rows from elsewhere.
 
-   `rt staticlib calls` writes target/staticlib/libcalls.a, which holds them, for x86-64:
+   tools/archive writes target/staticlib/libcalls.a, which holds them, for x86-64:
 
        cc -I include program.c target/staticlib/libcalls.a
 

@@ -1,5 +1,5 @@
 //! The calls for Rust. `feshamiru.h` beside this file says what each takes and gives: a slice passes
-//! as a pointer and then a length. Link them from the archive that `rt staticlib calls` writes.
+//! as a pointer and then a length. Link them from the archive that tools/archive writes.
 
 // A program need not use them all.
 #![allow(dead_code)]

@@ -1,8 +1,7 @@
 #!/bin/sh
 # tests/readme.sh: what README.md shows is so: the table and the answer of its example, the check of a maker's rows, two positions that are
 # compared, and the programs in C and Rust, which compile, run and print what it says by its own commands; and every file it names is
-# there. Where the machine is not x86-64, the commands for x86-64 are not run, and the Rust program is compiled but not linked: a line
-# 'skipped: ..' says so. Needs target/staticlib/libcalls.a ('rt staticlib calls' writes it). Prints last 'N passed, M failed'.
+# there. Needs target/staticlib/libcalls.a, which tools/archive makes. Prints last 'N passed, M failed'.
 set -u
 cd "$(dirname "$0")/.." || exit 2
 # shellcheck disable=SC1091
@@ -56,13 +55,8 @@ printf '%s\n' 'code 0' '0 1 0 0' '0 1 1 0' >"$scratch/answer"
 set_in 'code [0-9]' '[0-9] [0-9] [0-9] [0-9]' | sed -n '/^code/,$p' >"$scratch/shown"
 holds "what the programs print is shown" diff "$scratch/shown" "$scratch/answer"
 holds "the C program, built by the kit" prints 'tests/c/build .*'
-if [ "$(uname -m)" = x86_64 ]; then
-    holds "the C program, built by cc" prints 'cc .*'
-    holds "the Rust program" prints 'rustc .*'
-else
-    echo "skipped: the C program built by cc, and the Rust program linked: this machine is not x86-64"
-    holds "the Rust program compiles" rustc --edition 2021 -D warnings --emit metadata --out-dir "$scratch" tests/rust/example.rs
-fi
+holds "the C program, built by cc" prints 'cc .*'
+holds "the Rust program" prints 'rustc .*'
 
 # The paths that a text gives in backquotes.
 paths() {

@@ -1,6 +1,6 @@
 //! The proved calls, asked over a pipe. For each archive one process answers for the whole run: the
-//! program of `tests/c/serve.c`, where the form of requests and replies is told, with that archive. An
-//! archive is for x86-64 alone, so it isn't linked here: what runs those programs may be an emulator.
+//! program of `tests/c/serve.c`, where the form of requests and replies is told, with that archive. It
+//! isn't linked here, so that a call that ends its process ends no more than that.
 
 use crate::call::{Call, Layout, Outcome};
 use std::collections::BTreeMap;
