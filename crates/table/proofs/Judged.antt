@@ -91,6 +91,11 @@ none-fails cs p = go (first_failure cs)
 pub passes-none-fails : (which : ℕ) (bytes : List ℕ) → checked_of (table_checks 0 bytes) ≡ Passes → N.Passes (table_checks which bytes)
 passes-none-fails which bytes p = other_which 0 which bytes (none-fails (table_checks 0 bytes) p)
 
+-- what tells no refusal passes
+pub passes-otherwise : (checked : Checked) → ((r : Refusal) (place : ℕ) → checked ≡ Fails r place → ⊥) → checked ≡ Passes
+passes-otherwise Passes none = refl
+passes-otherwise (Fails r place) none = absurd (none r place refl)
+
 -- what the answer's two fields are
 module _ (bytes : List ℕ) {r : Reading} (e : r ≡ reading_of bytes) where
   pub reading_checked : r.checked ≡ checked_of (table_checks 0 bytes)
