@@ -46,7 +46,7 @@ pub fn by_round(
     most: &mut [u64],
     risen: &mut [bool],
 ) -> bool
-    requires k_bound { (k ≤ 7) × Ready rows.now places.now s × (inputs ≡ inputs_in (rows_in rows.now)) }
+    requires bounds { (k ≤ 7) × Ready rows.now places.now s × (inputs ≡ inputs_in (rows_in rows.now)) }
     requires arrays { ForAll most.old risen.old × (s < 256) }
     ensures { LedByRound k rows.now out_spreads.now out_marks in_spreads.now in_marks s
         most.old risen.old most.new risen.new result }

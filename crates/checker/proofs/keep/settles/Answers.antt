@@ -71,7 +71,7 @@ by_round-requires c =
     let s = c.first_risen-s.result in
     let low = c.if-s-ge256.false in
     record {
-      k_bound = (
+      bounds = (
         f.bounded.patience,
         ready c.requires turning s c.first_risen-s.ensures low,
         sym (f.inputs ∙ inputs_read c.args.table),

@@ -79,5 +79,5 @@ loop-i-preserved c =
 pub returns : goal.returns
 returns c t f steps =
     let all : c.loop-i.i ≡ t.inputs =
-    omega (arith, c.loop-i.invariant.0, c.loop-i-test.false, c.requires.k_bound.2, f.inputs) in
+    omega (arith, c.loop-i.invariant.0, c.loop-i-test.false, c.requires.bounds.2, f.inputs) in
     (λ _. rw all at (c.loop-i.invariant.2 t f steps), λ e. absurd (true≢false e))
