@@ -28,7 +28,8 @@ rows-length f i = rows-bytes (tab i f) ∙ ap (λ (n : ℕ). n * 4) (tab-length 
 
 -- a row written to the part of the buffer after those of the inputs before
 pub row_written : (old : List ℕ) (f : ℕ → Row) (i : ℕ) (whole part row : List ℕ) → whole ≡ written (row_bytes (tab i f)) old
-    → part ≡ written row (take (length whole - i * 4) (drop (i * 4) whole)) → row ≡ (f i).state ∷ (f i).output ∷ (f i).input ∷ (f i).next ∷ []
+    → part ≡ written row (take (length whole - i * 4) (drop (i * 4) whole))
+    → row ≡ (f i).state ∷ (f i).output ∷ (f i).input ∷ (f i).next ∷ []
     → take (i * 4) whole ++ (part ++ drop (length whole - i * 4) (drop (i * 4) whole)) ≡ written (row_bytes (tab (i + 1) f)) old
 row_written old f i whole part row w p e =
     written_part old (row_bytes (tab i f)) row whole part (i * 4) (rows-length f i) w p
