@@ -1,7 +1,7 @@
 -- A call that solves, by the order of its checks, whichever call it is: 2 and 3 before any others, 4 to 10 of a table by the answer of
 -- `check`, and 11 and 12 of a stage by how its rounds settled. Each law takes what the code has found to what the definition judges next,
 -- so that the outcome is put together check by check. Assumes nothing.
-use mathlib.Core.Path.{◌≡◌, sym, ap, ◌∙◌}
+use mathlib.Core.Path.{◌≡◌, refl, sym, ap, ◌∙◌}
 use mathlib.Core.Bool.{true, false}
 use mathlib.Core.List.{List, ◌∷◌, ◌++◌}
 use Prim.Native.Nat.{ℕ, ◌≤◌, ◌<◌}
@@ -46,6 +46,11 @@ module _ (K N : ℕ) (win con : List ℕ) (cs : List Check) (grant : Solved) whe
   pub opened-on : K ≤ 7 → (room N win con).failed ≡ false → judge cs (unsolved win con) grant ≡ opened
   unfolding bound
   opened-on h p = rw (le-ltb 7 K h, p)
+
+-- rounds that end after no number of rounds end with FULL
+pub full-otherwise : (settled : Settled) → ((rounds number : ℕ) → settled ≡ After rounds number → ⊥) → settled ≡ FullAfter
+full-otherwise FullAfter none = refl
+full-otherwise (After rounds number) none = absurd (none rounds number refl)
 
 -- checks 4 to 10 of a table, before any others
 module _ (which : ℕ) (bytes : List ℕ) (win con : List ℕ) (cs : List Check) (grant : Solved) where
