@@ -64,7 +64,8 @@ module _ (n m kind : ℕ) where
   moved_other rs r e = ap (λ (l : List Record). bytes_of (map (renumber n m) l)) (of_kind_other kind rs r e)
 
   moved_length : (rs : List Record) → length (moved_bytes n m kind rs) ≡ 4 * length (of_kind kind rs)
-  moved_length rs = bytes-length (map (renumber n m) (of_kind kind rs)) ∙ ap (λ (k : ℕ). 4 * k) (length-map (of_kind kind rs) (renumber n m))
+  moved_length rs =
+      bytes-length (map (renumber n m) (of_kind kind rs)) ∙ ap (λ (k : ℕ). 4 * k) (length-map (of_kind kind rs) (renumber n m))
 
   pub moved-room : (bytes : List ℕ) (i : ℕ) (r : Record) → i < length bytes / 4 → r ≡ at (records_of bytes) i → r.kind ≡ kind
       → length (moved_bytes n m kind (take i (records_of bytes))) + 4 ≤ length (moved_bytes n m kind (records_of bytes))

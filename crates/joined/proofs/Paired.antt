@@ -20,7 +20,6 @@ use Rattle.meaning.proofs.Tests.{neither_right}
 use Rattle.meaning.proofs.Lists.{member-at}
 use Rattle.meaning.proofs.Records.{inside-bytes, records_count}
 use Rattle.meaning.specs.Checks as N
-use Rattle.meaning.proofs.Checks as C
 use Rattle.meaning.proofs.Checks.{Failure, first_failure, judge-passes, judge-fails, judge-append}
 use Rattle.meaning.proofs.Sound.{passes-small, passes_sound, passes-first, passes-second, passes-paired}
 use Rattle.meaning.proofs.JoinGood.{joined_length}
@@ -38,7 +37,8 @@ use Rattle.joined.specs.Joined.{paired_of, readings, readings_of, ReadBoth}
 
 -- one table's checks before others
 table_then : (which : ℕ) (bytes : List ℕ) (rest : List Check)
-    → paired_of (table_checks which bytes ++ rest) ≡ by_checked (λ r p. Fails r p which) (paired_of rest) (checked_of (table_checks 0 bytes))
+    → paired_of (table_checks which bytes ++ rest)
+    ≡ by_checked (λ r p. Fails r p which) (paired_of rest) (checked_of (table_checks 0 bytes))
 table_then which bytes rest =
     let refuse : Check → Paired = λ c. Fails c.refusal c.fault_at c.table in
     judge-append (table_checks which bytes) rest refuse Passes ∙ judge_checked which bytes refuse (paired_of rest)
@@ -56,7 +56,8 @@ unfolding pair_checks
 judged one two =
     ap paired_of (append_assoc (table_checks 1 one) (table_checks 2 two) (size_checks one two))
     ∙ table_then 1 one (table_checks 2 two ++ size_checks one two)
-    ∙ ap (λ (rest : Paired). by_checked (λ r p. Fails r p 1) rest (checked_of (table_checks 0 one))) (table_then 2 two (size_checks one two))
+    ∙ ap (λ (rest : Paired). by_checked (λ r p. Fails r p 1) rest (checked_of (table_checks 0 one)))
+    (table_then 2 two (size_checks one two))
 
 -- so the answer is put together from what the checks come to and the two tables as they were read
 pub readings-of : (one two : List ℕ) {p : Paired} {r s : Reading} {answer : Readings} → answer ≡ readings p r s
@@ -89,7 +90,8 @@ abbrev pub size_over : Table → Table → Bool
 size_over t u = ltb 8 (t.controllers + u.controllers) || ltb 8 (t.worlds + u.worlds)
 
 module _ (one two : List ℕ) (t u : Table) (both : Both one two t u) where
-  sizes_left : paired_of (pair_checks one two) ≡ cond (letters_differ t u) (Fails Letters 0 0) (cond (size_over t u) (Fails Size 0 0) Passes)
+  sizes_left : paired_of (pair_checks one two)
+      ≡ cond (letters_differ t u) (Fails Letters 0 0) (cond (size_over t u) (Fails Size 0 0) Passes)
   unfolding other_letters too_large packed
   sizes_left = rw (judged one two, both.first, both.second, both.first_read, both.second-read)
 
