@@ -1,5 +1,5 @@
-// The public calls for C and Rust: numbers and byte slices in, the code out, and the answer laid
-// down as bytes.
+// The public calls for other programs: numbers and byte slices in, the code out, and the answer laid
+// down as bytes. The crate calls_c exports them for C and Rust.
 #![tactic(auto)]
 
 pub mod lay;
@@ -8,8 +8,7 @@ ghost use Rattle.std.specs.Prelude.{◌≡◌, cond, ltb};
 ghost use Rattle.calls.specs.Called.{unanswered as unanswered_for, called, called_solve, called_parts, joins, called_join, CalledCheck};
 
 // Solves a table for the patience count k, with room for so many positions.
-#[unsafe(no_mangle)]
-pub extern "C" fn desk_solve(
+pub fn desk_solve(
     table: &[u8],
     k: u32,
     room: u32,
@@ -26,8 +25,7 @@ pub extern "C" fn desk_solve(
 }
 
 // Joins two tables into one.
-#[unsafe(no_mangle)]
-pub extern "C" fn desk_join(first: &[u8], second: &[u8], out: &mut [u8], answer: &mut [u8]) -> u32
+pub fn desk_join(first: &[u8], second: &[u8], out: &mut [u8], answer: &mut [u8]) -> u32
     ensures { joins result out.new answer.new
         ≡ called_join first.now second.now out.old answer.old }
 {
@@ -39,8 +37,7 @@ pub extern "C" fn desk_join(first: &[u8], second: &[u8], out: &mut [u8], answer:
 }
 
 // Solves two tables by parts.
-#[unsafe(no_mangle)]
-pub extern "C" fn desk_parts(
+pub fn desk_parts(
     first: &[u8],
     second: &[u8],
     k: u32,
@@ -59,8 +56,7 @@ pub extern "C" fn desk_parts(
 }
 
 // Checks rows, whoever made them, against a table for the patience count k.
-#[unsafe(no_mangle)]
-pub extern "C" fn desk_check(table: &[u8], k: u32, rows: &[u8], answer: &mut [u8]) -> u32
+pub fn desk_check(table: &[u8], k: u32, rows: &[u8], answer: &mut [u8]) -> u32
     ensures { CalledCheck table.now k rows.now answer.old result answer.new }
 {
     if 24 <= answer.len() {
