@@ -7,7 +7,6 @@ use native.Mathlib.Omega.{arith}
 use lib.ListN.{length}
 use borrow.Author.Tests.{ne_eqb}
 use Rattle.meaning.specs.declared.Answer.{Answer}
-use Rattle.meaning.specs.declared.Refusal.TheVariants as R
 use Rattle.meaning.specs.Table.{Table}
 use Rattle.meaning.specs.Rounds.{Set, FirstSet}
 use Rattle.meaning.specs.Written.{winners}

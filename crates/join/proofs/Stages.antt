@@ -10,7 +10,7 @@ use lib.ListN.{length}
 use borrow.Author.Tests.{lt-ltb, le-ltb}
 use Rattle.meaning.specs.declared.Refusal.TheVariants.{Full}
 use Rattle.meaning.specs.Records.{records_of, output, input}
-use Rattle.meaning.specs.Table.{Table, table_of, stated, Small}
+use Rattle.meaning.specs.Table.{table_of, stated, Small}
 use Rattle.meaning.specs.Counting.{Position}
 use Rattle.meaning.specs.Rounds.{all_safe, winning, maximal_members, FirstSet}
 use Rattle.meaning.specs.Written.{position_bytes, winners}
@@ -36,6 +36,9 @@ use Rattle.rounds.specs.Rounds.{covered_by, FirstList, Settles}
 use Rattle.rounds.proofs.First.{first-covered, first_list}
 use Rattle.game.specs.Finished.{Fit}
 use Rattle.game.proofs.InOrder.{stage-full}
+use Rattle.joined.specs.declared.pair.Readings.{Readings}
+use Rattle.joined.specs.Joined.{ReadBoth}
+use Rattle.joined.proofs.Paired.{none-fails, read-passes}
 use Rattle.join.specs.Beside.{all_beside}
 use Rattle.join.specs.Parts.{FirstPairs, last_stage, in_turn}
 use Rattle.join.proofs.Pairs.{all_wide}
@@ -51,6 +54,10 @@ module _ (one two : List ℕ) (K N : ℕ) (win con : List ℕ) where
       ap (judge (bound K ∷ room N win con ∷ []) (unsolved win con))
       (judge-append (pair_checks one two) (parts_stages one two K N) (unsolved win con)
       (solved_from K (joined_table one two) (pairs K (stated one) (stated two)) win con))
+
+-- two tables that were checked and read pass all the checks
+pub checks-pass : (one two : List ℕ) {read : Readings} → ReadBoth one two read → Passes (pair_checks one two)
+checks-pass one two both = none-fails (pair_checks one two) (read-passes one two both)
 
 module _ (one two : List ℕ) (p : Passes (pair_checks one two)) where
   -- what is read of the joined table's bytes is the joined table
