@@ -1,18 +1,20 @@
-// What the programs at the desk print: a number by its name, and bytes as lines of four numbers. The
+// What the programs at the desk print: a number by its name, and bytes as lines of four numbers; and how they read their files. The
 // calls that give these numbers are proved elsewhere; here no more is proved than that it is safe.
 #![tactic(auto)]
 
-use libc::STDOUT_FILENO;
+pub mod files;
+
+use std::io;
 
 // One number, by its name.
-pub fn field(name: &[u8], value: usize) {
-    io::write_all(STDOUT_FILENO, name);
-    io::print_decimal(STDOUT_FILENO, value as u64);
+pub fn field(rt: &impl Print, name: &[u8], value: usize) -> io::Result<()> {
+    rt.write_all(name)?;
+    print!(rt; "{value}")
 }
 
 // Ends a line.
-pub fn end() {
-    io::write_all(STDOUT_FILENO, b"\n");
+pub fn end(rt: &impl Print) -> io::Result<()> {
+    println!(rt)
 }
 
 // How many rows a controller has: one for each winner and input.
@@ -27,21 +29,22 @@ pub fn rows(winners: usize, inputs: usize) -> usize {
 }
 
 // The first rows or records, so many of them, which are four bytes each, as lines of four numbers.
-pub fn fours(bytes: &[u8], count: usize) {
+pub fn fours(rt: &impl Print, bytes: &[u8], count: usize) -> io::Result<()> {
     let mut left = count;
     let mut at = 0;
     while 0 < left {
         if bytes.len() - at < 4 {
-            return;
+            return Ok(());
         }
-        field(b"", wide(bytes[at]));
-        field(b" ", wide(bytes[at + 1]));
-        field(b" ", wide(bytes[at + 2]));
-        field(b" ", wide(bytes[at + 3]));
-        end();
+        field(rt, b"", wide(bytes[at]))?;
+        field(rt, b" ", wide(bytes[at + 1]))?;
+        field(rt, b" ", wide(bytes[at + 2]))?;
+        field(rt, b" ", wide(bytes[at + 3]))?;
+        end(rt)?;
         at += 4;
         left -= 1;
     }
+    Ok(())
 }
 
 fn wide(byte: u8) -> usize {
