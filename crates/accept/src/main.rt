@@ -3,8 +3,10 @@
 // place: its other fields are 0.
 #![tactic(auto)]
 
-use libc::STDERR_FILENO;
+use lines::files;
 use meaning::Answer;
+use std::io;
+use std::rt::{Env, Files};
 
 // What a word says as a number.
 #[derive(Drop)]
@@ -13,36 +15,31 @@ enum Word {
     Other,
 }
 
-fn main() {
-    let table_file = open(1);
-    let rows_file = open(2);
-    if table_file < 0 || rows_file < 0 {
-        return;
-    }
+fn main(rt: HostRuntime) -> io::Result<()> {
+    let table_file = open(&rt, 1)?;
+    let rows_file = open(&rt, 2)?;
+    let (Some(mut table_file), Some(mut rows_file)) = (table_file, rows_file) else {
+        return Ok(());
+    };
     let mut table = [0u8; 4161];
     let mut rows = [0u8; 8193];
-    let n = io::read_full(table_file, &mut table);
-    let m = io::read_full(rows_file, &mut rows);
+    let n = files::read_full(&mut table_file, &mut table)?;
+    let m = files::read_full(&mut rows_file, &mut rows)?;
     let mut word = [0u8; 9];
-    let length = os::arg(3, &mut word);
+    let length = rt.arg(3, &mut word).unwrap_or(0);
     let patience = number(&word[..length]);
     match patience {
-        Word::Number(k) => print_answer(k, checker::check(&table[..n], k, &rows[..m])),
-        Word::Other => {
-            io::write_all(STDERR_FILENO, b"K is not a number of at most nine digits\n");
-        }
+        Word::Number(k) => print_answer(&rt, k, checker::check(&table[..n], k, &rows[..m])),
+        Word::Other => eprintln!(rt; "K is not a number of at most nine digits"),
     }
 }
 
-// Opens the file that an argument names, or says why it can't and answers a negative number.
-fn open(i: usize) -> i32 {
-    let mut path = io::buffer();
-    let n = os::arg(i, &mut path);
-    let file = os::open_read(&path[..n]);
-    if file < 0 {
-        os::fail(&path[..n]);
-    }
-    file
+// Opens the file that an argument names, or says why it can't and answers none. A word that is missing or
+// too long names no file.
+fn open<R: Env + Files + Eprint>(rt: &R, i: usize) -> io::Result<Option<R::File>> {
+    let mut path = [0u8; 4096];
+    let n = rt.arg(i, &mut path).unwrap_or(0);
+    files::open(rt, &path[..n])
 }
 
 // A number in decimal digits, of which there are one to nine.
@@ -69,10 +66,10 @@ fn number(word: &[u8]) -> Word {
     Word::Number(value)
 }
 
-fn print_answer(k: usize, answer: Answer) {
+fn print_answer(rt: &impl Print, k: usize, answer: Answer) -> io::Result<()> {
     let verdict = answer.verdict;
-    lines::field(b"k ", k);
-    lines::field(b" code ", meaning::code(verdict));
-    lines::field(b" place ", answer.place);
-    lines::end();
+    lines::field(rt, b"k ", k)?;
+    lines::field(rt, b" code ", meaning::code(verdict))?;
+    lines::field(rt, b" place ", answer.place)?;
+    lines::end(rt)
 }

@@ -4,86 +4,86 @@
 // prints for one table, with the field which.
 #![tactic(auto)]
 
-use libc::STDOUT_FILENO;
+use lines::files;
 use meaning::Answer;
+use std::io;
+use std::rt::{Env, Files};
 use table::record::INPUT;
 
-fn main() {
-    let one = open(2);
-    let two = open(3);
-    if one < 0 || two < 0 {
-        return;
-    }
+fn main(rt: HostRuntime) -> io::Result<()> {
+    let one = open(&rt, 2)?;
+    let two = open(&rt, 3)?;
+    let (Some(mut one), Some(mut two)) = (one, two) else {
+        return Ok(());
+    };
     let mut first = [0u8; 4161];
     let mut second = [0u8; 4161];
-    let n = io::read_full(one, &mut first);
-    let m = io::read_full(two, &mut second);
+    let n = files::read_full(&mut one, &mut first)?;
+    let m = files::read_full(&mut two, &mut second)?;
     let mut word = [0u8; 8];
-    let length = os::arg(1, &mut word);
-    if check::same(&word[..length], b"join") {
-        join(&first[..n], &second[..m]);
-    }
-    if check::same(&word[..length], b"parts") {
-        parts(&first[..n], &second[..m]);
+    let length = rt.arg(1, &mut word).unwrap_or(0);
+    match &word[..length] {
+        b"join" => join(&rt, &first[..n], &second[..m]),
+        b"parts" => parts(&rt, &first[..n], &second[..m]),
+        _ => Ok(()),
     }
 }
 
-// Opens the file that an argument names, or says why it can't and answers a negative number.
-fn open(i: usize) -> i32 {
-    let mut path = io::buffer();
-    let n = os::arg(i, &mut path);
-    let file = os::open_read(&path[..n]);
-    if file < 0 {
-        os::fail(&path[..n]);
-    }
-    file
+// Opens the file that an argument names, or says why it can't and answers none. A word that is missing or
+// too long names no file.
+fn open<R: Env + Files + Eprint>(rt: &R, i: usize) -> io::Result<Option<R::File>> {
+    let mut path = [0u8; 4096];
+    let n = rt.arg(i, &mut path).unwrap_or(0);
+    files::open(rt, &path[..n])
 }
 
-fn join(first: &[u8], second: &[u8]) {
+fn join(rt: &impl Print, first: &[u8], second: &[u8]) -> io::Result<()> {
     let mut out = [0u8; 4160];
     let answer = join::join(first, second, &mut out);
-    print_answer(answer);
+    print_answer(rt, answer)?;
     let verdict = answer.verdict;
     if meaning::code(verdict) == 0 {
-        lines::fours(&out, answer.place / 4);
+        lines::fours(rt, &out, answer.place / 4)?;
     }
+    Ok(())
 }
 
-fn parts(first: &[u8], second: &[u8]) {
+fn parts(rt: &impl Print, first: &[u8], second: &[u8]) -> io::Result<()> {
     let mut k = 0;
     while k < 8 {
-        if parts_at(first, second, k) != 1 {
-            return;
+        if parts_at(rt, first, second, k)? != 1 {
+            return Ok(());
         }
         k += 1;
     }
+    Ok(())
 }
 
 // Solves by parts for one patience count, prints what came of it, and answers its code.
-fn parts_at(first: &[u8], second: &[u8], k: usize) -> usize {
+fn parts_at(rt: &impl Print, first: &[u8], second: &[u8], k: usize) -> io::Result<usize> {
     let mut winners = [0u8; 2048];
     let mut controller = [0u8; 8192];
     let answer = join::parts(first, second, k, 256, &mut winners, &mut controller);
-    lines::field(b"k ", k);
-    io::write_all(STDOUT_FILENO, b" ");
-    print_answer(answer);
+    lines::field(rt, b"k ", k)?;
+    rt.write_all(b" ")?;
+    print_answer(rt, answer)?;
     let verdict = answer.verdict;
     let code = meaning::code(verdict);
     if code == 0 {
         let inputs = table::read::letters(first, INPUT);
-        lines::fours(&controller, lines::rows(answer.winners, inputs));
+        lines::fours(rt, &controller, lines::rows(answer.winners, inputs))?;
     }
-    code
+    Ok(code)
 }
 
 // An answer's fields by name, to the end of the line.
-fn print_answer(answer: Answer) {
+fn print_answer(rt: &impl Print, answer: Answer) -> io::Result<()> {
     let verdict = answer.verdict;
-    lines::field(b"code ", meaning::code(verdict));
-    lines::field(b" place ", answer.place);
-    lines::field(b" which ", answer.which);
-    lines::field(b" rounds ", answer.rounds);
-    lines::field(b" winners ", answer.winners);
-    lines::field(b" start ", meaning::start(verdict));
-    lines::end();
+    lines::field(rt, b"code ", meaning::code(verdict))?;
+    lines::field(rt, b" place ", answer.place)?;
+    lines::field(rt, b" which ", answer.which)?;
+    lines::field(rt, b" rounds ", answer.rounds)?;
+    lines::field(rt, b" winners ", answer.winners)?;
+    lines::field(rt, b" start ", meaning::start(verdict))?;
+    lines::end(rt)
 }

@@ -8,8 +8,9 @@ ghost use Rattle.masks.specs.Mask.{mask};
 ghost use Rattle.counts.specs.Words.{counts_in};
 ghost use Rattle.compare.specs.Shown.{ReadAs, differs};
 
-use libc::{STDERR_FILENO, STDOUT_FILENO};
 use meaning::Comparison;
+use std::io;
+use std::rt::Env;
 
 // What a word says as a position: eight counts in a word of 64 bits, as in the crate counts.
 #[derive(Drop)]
@@ -18,33 +19,29 @@ enum Word {
     Other,
 }
 
-fn main() {
-    let Word::Position(a) = argument(1) else {
-        refuse(b"The first");
-        return;
+fn main(rt: HostRuntime) -> io::Result<()> {
+    let Word::Position(a) = argument(&rt, 1) else {
+        return refuse(&rt, "The first");
     };
-    let Word::Position(b) = argument(2) else {
-        refuse(b"The second");
-        return;
+    let Word::Position(b) = argument(&rt, 2) else {
+        return refuse(&rt, "The second");
     };
-    print_comparison(counts::word::compare(a, b));
-    print_states(differing(a, b));
-    lines::end();
+    print_comparison(&rt, counts::word::compare(a, b))?;
+    print_states(&rt, differing(a, b))?;
+    lines::end(&rt)
 }
 
 // One word of the call. A word with more than eight bytes is none of eight digits, and comes as none at all.
-fn argument(i: usize) -> Word {
+fn argument(rt: &impl Env, i: usize) -> Word {
     let mut word = [0u8; 8];
-    let length = os::arg(i, &mut word);
+    let length = rt.arg(i, &mut word).unwrap_or(0);
     read(&word[..length])
 }
 
-fn refuse(which: &[u8]) {
-    io::write_all(STDERR_FILENO, which);
-    io::write_all(
-        STDERR_FILENO,
-        b" word is not a position: eight digits, one for each state, its count + 1, or 0 where no run is\n",
-    );
+fn refuse(rt: &impl Eprint, which: &str) -> io::Result<()> {
+    eprintln!(rt;
+        "{which} word is not a position: eight digits, one for each state, its count + 1, or 0 where no run is"
+    )
 }
 
 // The position that a word of eight digits shows; a word of anything else shows none.
@@ -93,29 +90,23 @@ fn differing(a: u64, b: u64) -> u8
     states
 }
 
-fn print_comparison(comparison: Comparison) {
-    match comparison {
-        Comparison::Same => {
-            io::write_all(STDOUT_FILENO, b"same");
-        }
-        Comparison::Below => {
-            io::write_all(STDOUT_FILENO, b"below");
-        }
-        Comparison::Above => {
-            io::write_all(STDOUT_FILENO, b"above");
-        }
-        Comparison::Neither => {
-            io::write_all(STDOUT_FILENO, b"neither");
-        }
-    }
+fn print_comparison(rt: &impl Print, comparison: Comparison) -> io::Result<()> {
+    let word = match comparison {
+        Comparison::Same => "same",
+        Comparison::Below => "below",
+        Comparison::Above => "above",
+        Comparison::Neither => "neither",
+    };
+    print!(rt; "{word}")
 }
 
-fn print_states(states: u8) {
+fn print_states(rt: &impl Print, states: u8) -> io::Result<()> {
     let mut q = 0;
     while q < 8 {
         if masks::has(states, q) {
-            lines::field(b" ", q);
+            lines::field(rt, b" ", q)?;
         }
         q += 1;
     }
+    Ok(())
 }
