@@ -2,74 +2,85 @@
 // with. Each table has one output and one input, so that one row is all that there is to follow.
 use crate::tables::FIRST;
 use crate::{calls, makers};
+use std::io;
 
 // Several start states, some of them marked, and a marked state that is no start state.
-pub fn several() {
-    at_each(b"two starts, one marked", b"1030 1120 2000 3000 3100 4001");
+pub fn several(rt: &impl Print) -> io::Result<()> {
     at_each(
+        rt,
+        b"two starts, one marked",
+        b"1030 1120 2000 3000 3100 4001",
+    )?;
+    at_each(
+        rt,
         b"two starts, both marked",
         b"1030 1130 1200 2000 3000 3100 3200 4002",
-    );
+    )?;
     at_each(
+        rt,
         b"a marked state that is no start",
         b"1010 1120 2000 3000 3100 4001",
-    );
+    )?;
     at_each(
+        rt,
         b"one start marked, the other's run comes to a mark",
         b"1030 1120 1200 2000 2110 3000 3101 3200 4002 4102",
-    );
+    )
 }
 
 // A marked start state whose run comes to one marked state more, and one that is visited again and again.
-pub fn again() {
+pub fn again(rt: &impl Print) -> io::Result<()> {
     at_each(
+        rt,
         b"a marked start, and a visit more",
         b"1030 1110 1200 2000 2100 3000 3101 3201 4001 4102",
-    );
-    at_each(b"a marked start for ever", b"1030 2000 3000 4000");
+    )?;
+    at_each(rt, b"a marked start for ever", b"1030 2000 3000 4000")
 }
 
 // FIRST with itself and with a table whose start is not marked, by parts.
-pub fn parts() {
+pub fn parts(rt: &impl Print) -> io::Result<()> {
     let first = FIRST;
     let mut plain = [0u8; 16];
     let n = makers::spelled(b"1020 2000 3000 4000", &mut plain);
-    calls::parts(b"FIRST and itself by parts, K 0", &first, &first, 0, 4);
-    calls::parts(b"FIRST and itself by parts, K 1", &first, &first, 1, 4);
+    calls::parts(rt, b"FIRST and itself by parts, K 0", &first, &first, 0, 4)?;
+    calls::parts(rt, b"FIRST and itself by parts, K 1", &first, &first, 1, 4)?;
     calls::parts(
+        rt,
         b"a plain table and FIRST by parts, K 0",
         &plain[..n],
         &first,
         0,
         4,
-    );
+    )?;
     calls::parts(
+        rt,
         b"a plain table and FIRST by parts, K 1",
         &plain[..n],
         &first,
         1,
         4,
-    );
+    )
 }
 
 // Refusals come before the start is looked at: rows that are not well formed, and of other letters.
-pub fn refused() {
+pub fn refused(rt: &impl Print) -> io::Result<()> {
     let first = FIRST;
-    makers::checked(b"FIRST, no row", &first, 0, b"");
-    makers::checked(b"FIRST, output 1", &first, 0, b"0100");
+    makers::checked(rt, b"FIRST, no row", &first, 0, b"")?;
+    makers::checked(rt, b"FIRST, output 1", &first, 0, b"0100")
 }
 
 // A table in digits at K 0, 1 and 2.
-fn at_each(name: &[u8], digits: &[u8]) {
-    at(name, digits, 0);
-    at(name, digits, 1);
-    at(name, digits, 2);
+fn at_each(rt: &impl Print, name: &[u8], digits: &[u8]) -> io::Result<()> {
+    at(rt, name, digits, 0)?;
+    at(rt, name, digits, 1)?;
+    at(rt, name, digits, 2)
 }
 
 // A table in digits solved, and the row 0000 checked against it.
-fn at(name: &[u8], digits: &[u8], k: usize) {
+fn at(rt: &impl Print, name: &[u8], digits: &[u8], k: usize) -> io::Result<()> {
     let mut table = [0u8; 40];
     let n = makers::spelled(digits, &mut table);
-    calls::small(name, &table[..n], k, 2);
-    makers::checked(name, &table[..n], k, b"0000");
+    calls::small(rt, name, &table[..n], k, 2)?;
+    makers::checked(rt, name, &table[..n], k, b"0000")
 }
