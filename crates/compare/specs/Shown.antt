@@ -4,7 +4,6 @@ use Rattle.meaning.specs.Lists.{each}
 use Rattle.meaning.specs.Counting.{Position, count}
 use Rattle.counts.specs.Words.{counts_in}
 use Rattle.compare.specs.declared.Word.{Word}
-use Rattle.compare.specs.declared.Word.TheVariants as Word
 
 -- a byte that stands for one of the digits 0 to 9 in a text
 unfoldable pub is_digit : ℕ → Bool
