@@ -1,6 +1,6 @@
 // Controllers checked whoever made them: those that the solver wrote, right and wrong ones that it would
 // never write, and each refusal. Rows and small tables are spelled in digits.
-ghost use Rattle.io.specs.Counts.{IsPrefixLen};
+ghost use Rattle.std.specs.Prelude.{◌≤◌, length};
 
 use crate::tables::{FIRST, OWED, PROMPT, SILENT};
 use crate::{calls, print};
@@ -172,7 +172,7 @@ fn faulty(rt: &impl Print, name: &[u8], digits: &[u8]) -> io::Result<()> {
 
 // Writes digits as bytes, a digit a byte, and answers how many there are. Blanks are passed over.
 pub fn spelled(digits: &[u8], out: &mut [u8]) -> usize
-    ensures { IsPrefixLen result out.new }
+    ensures { result ≤ length out.new }
 {
     let mut n = 0;
     let mut i = 0;
