@@ -1,5 +1,7 @@
 // The files that the programs read: opened by name, and read to the end or until a buffer is full.
+ghost use Rattle.std.specs.Prelude.{◌<◌, length, take, IfOk};
 ghost use Rattle.std.specs.Io.{ReadsAtMost};
+ghost use Rattle.std.specs.Io.KnownBytes.{Consumes, IsAtEnd};
 
 use std::fmt::InlineText;
 use std::io::Read;
@@ -36,9 +38,12 @@ fn without_number(text: &str) -> &str {
     }
 }
 
-// Reads until the buffer is full or the input ends, and answers how many bytes it put at the buffer's start.
+// Reads until the buffer is full or the input ends, and answers how many bytes it put at the buffer's start: those that came next, and
+// fewer than have room only at the end.
 pub fn read_full<F: Read>(from: &mut F, buf: &mut [u8]) -> io::Result<usize>
-    ensures { ReadsAtMost result buf.new }
+    ensures within { ReadsAtMost result buf.new }
+    ensures next { IfOk result (λ n. Consumes (F.remaining from.old) (F.remaining from.new) (take n buf.new)) }
+    ensures whole { IfOk result (λ n. n < length buf.new → IsAtEnd (F.remaining from.new)) }
 {
     let mut done = 0;
     while done < buf.len() {
@@ -49,4 +54,16 @@ pub fn read_full<F: Read>(from: &mut F, buf: &mut [u8]) -> io::Result<usize>
         done += n;
     }
     Ok(done)
+}
+
+#[cfg(test)]
+mod tests {
+    use super::*;
+
+    // std's text for an error of the system is the system's words and then a number, which no clause says.
+    #[test]
+    fn leaves_the_number_out(rt: HostRuntime) {
+        let text = InlineText::<128>::of(io::Error::from_raw_os_error(2));
+        assert_eq!(rt; without_number(text.as_str()), "No such file or directory");
+    }
 }
