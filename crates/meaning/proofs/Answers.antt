@@ -24,6 +24,7 @@ use Rattle.meaning.specs.Checks.{Check, judge, bound, room, table_checks, stage_
 use Rattle.meaning.specs.Checks.{pair_checks, join_checks, parts_checks, Passes}
 use Rattle.meaning.proofs.Tests.{clash}
 use Rattle.meaning.proofs.Checks.{passes_at, passes-left, passes-right, Judged, judged, refusal-leaves}
+use Rattle.meaning.proofs.Restated.{start_wins}
 
 -- the verdict where no check fails
 pub cond_realizable : (b : Bool) (s start : ℕ) → (cond b (Realizable s) Unrealizable ≡ Realizable start) ↔ ((b ≡ true) × (start ≡ s))
@@ -59,7 +60,7 @@ unfolding solved_from answered controller_rows unsolved refused
 stage-answered cs K t X win con =
     let ws = winners K t X in
     let s = start_state K t ws in
-    let won = ltb s (length ws) in
+    let won = start_wins s ws in
     let j = judged verdict_of cs (unsolved win con) (solved_from K t X win con) (λ c. refl) (cond-granted won s) in
     let exact = j.granted-exactly Unrealizable (λ r. cond-granted false 0 r) in
     record {

@@ -6,6 +6,7 @@ pub mod Searches
 pub mod Sizes
 pub mod Ascending
 -- steps
+pub mod Restated
 pub mod Steps
 pub mod Signed
 -- positions and rounds

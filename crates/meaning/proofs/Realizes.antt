@@ -6,7 +6,7 @@ use mathlib.Core.Logic.Iff
 use mathlib.Core.Logic.{◌↔◌}
 use mathlib.Core.Bool.{true, cond}
 use mathlib.Core.List.{List}
-use Prim.Native.Nat.{ℕ, ◌+◌, ◌<◌, min}
+use Prim.Native.Nat.{ℕ, ◌<◌}
 use native.Mathlib.Decide.{dec_lt}
 use native.Mathlib.Omega.{arith}
 use lib.ListN.{length, get_or-eq_default}
@@ -17,6 +17,7 @@ use Rattle.meaning.specs.Rounds.{Set, winning, FirstSet}
 use Rattle.meaning.specs.Written.{start_state}
 use Rattle.meaning.specs.Play.{Strategy, Legal, Keeps, Wins, Realizes, Realizable}
 use Rattle.meaning.specs.Play.Run.{here, round}
+use Rattle.meaning.proofs.Restated.{first_count}
 use Rattle.meaning.proofs.Tests.{clash}
 use Rattle.meaning.proofs.Lists.{tab-length, tab-at}
 use Rattle.meaning.proofs.Steps.{run-within, run-over-edge, safe_where}
@@ -32,10 +33,6 @@ start-declared rs p s = go (dec_lt p (length (of_kind controller rs)))
     go (no l) =
         let none : at (of_kind controller rs) p ≡ blank = get_or-eq_default (of_kind controller rs) blank (omega arith) in
         absurd (clash (start_in (at (of_kind controller rs) p)) s (ap start_in none))
-
--- what a start state counts, one higher: its mark, at most K + 1
-abbrev pub first_count : ℕ → Table → ℕ → ℕ
-first_count K t p = min (K + 2) (1 + t.controller_mark p)
 
 -- the start position: its states, that count at each start state, and none elsewhere
 pub start-length : (K : ℕ) (t : Table) → length (start_position K t) ≡ t.controllers

@@ -15,6 +15,7 @@ use borrow.Author.Tests.{leb-true, le-leb}
 use Rattle.meaning.specs.Lists.{largest, smallest}
 use Rattle.meaning.specs.Table.{Half}
 use Rattle.meaning.specs.Counting.{Position, nowhere, count, plus, forward, safe, below, back}
+use Rattle.meaning.proofs.Restated.{brings, allows}
 use Rattle.meaning.proofs.Tests.{cond_cases, each_at, each_of, largest-at, largest-of, largest_is, smallest-top, smallest-at}
 use Rattle.meaning.proofs.Tests.{smallest-of}
 use Rattle.meaning.proofs.Lists.{tab-length, tab-at}
@@ -136,13 +137,6 @@ plus-run K mark (suc c) l = omega arith
 pub run-over-edge : (b : Bool) (x : ℕ) → 0 < cond b x 0 → (b ≡ true) × (cond b x 0 ≡ x)
 run-over-edge true x c = (refl, refl)
 run-over-edge false x c = absurd (not-suc-le-zero c)
-
--- what p brings to q going forward, and what q leaves to p going back
-abbrev pub brings : ℕ → Half → Position → ℕ → ℕ → ℕ
-brings K h F q p = cond (h.edge p q) (plus K (h.mark q) (count F p)) 0
-
-abbrev pub allows : ℕ → Half → Position → ℕ → ℕ → ℕ
-allows K h F p q = cond (h.edge p q) (count F q - h.mark q) (K + 1)
 
 -- forward
 pub forward-length : (K : ℕ) (h : Half) (F : Position) → length (forward K h F) ≡ h.targets

@@ -16,7 +16,8 @@ use Rattle.meaning.specs.Counting.{Position, count, forward, safe, below, start_
 use Rattle.meaning.specs.Rounds.{all_safe}
 use Rattle.meaning.proofs.Tests.{both, both_left, both_right, each_sum, largest_sum, largest-zero}
 use Rattle.meaning.proofs.Lists.{tab_sum}
-use Rattle.meaning.proofs.Steps.{brings, forward-length}
+use Rattle.meaning.proofs.Restated.{brings}
+use Rattle.meaning.proofs.Steps.{forward-length}
 use Rattle.meaning.proofs.Positions.{all_safe-length, all_safe-safe, all_safe-of}
 use Rattle.meaning.proofs.Follows.{Follows}
 
