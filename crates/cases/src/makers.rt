@@ -1,6 +1,6 @@
 // Controllers checked whoever made them: those that the solver wrote, right and wrong ones that it would
 // never write, and each refusal. Rows and small tables are spelled in digits.
-ghost use Rattle.std.specs.Prelude.{◌≤◌, length};
+ghost use Rattle.std.specs.Prelude.{◌≤◌, length, ◌≡◌, take};
 
 use crate::tables::{FIRST, OWED, PROMPT, SILENT};
 use crate::{calls, print};
@@ -172,7 +172,7 @@ fn faulty(rt: &impl Print, name: &[u8], digits: &[u8]) -> io::Result<()> {
 
 // Writes digits as bytes, a digit a byte, and answers how many there are. Blanks are passed over.
 pub fn spelled(digits: &[u8], out: &mut [u8]) -> usize
-    ensures { result ≤ length out.new }
+    ensures { (result ≤ length out.new) × (result ≡ length (take result out.new)) }
 {
     let mut n = 0;
     let mut i = 0;
