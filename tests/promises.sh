@@ -52,7 +52,7 @@ find README.md bench crates crates.txt desk docs include tables test tests tools
             else learn_code(path, line)
         }
         close(path)
-        if (path ~ /^crates\/[a-z]+\/specs\/.*\.antt$/ || path ~ /^crates\/[a-z]+\/src\/.*\.rt$/)
+        if (path ~ /^crates\/[a-z_]+\/specs\/.*\.antt$/ || path ~ /^crates\/[a-z_]+\/src\/.*\.rt$/)
             result(stands, path " imports from proofs")
     }
 
@@ -66,7 +66,7 @@ find README.md bench crates crates.txt desk docs include tables test tests tools
             there[folder] = there[part[i - 1]] = 1
             folder = folder "/" part[i]
         }
-        if (path ~ /^crates\/[a-z]+\/must-fail\/.*\.edit$/) {
+        if (path ~ /^crates\/[a-z_]+\/must-fail\/.*\.edit$/) {
             edit[path] = 1
             sub(/\.edit$/, "", part[count])
             define(path, part[count])
@@ -124,7 +124,7 @@ find README.md bench crates crates.txt desk docs include tables test tests tools
         if (!in_table) of_edits = cell[2] == "Crate" && cell[3] == "Edit"
         for (i = 2; i < count; i++) text = text " " cell[i]
         if (of_edits && in_table) { if (cell[2] !~ /^-+$/) check_edit(where, cell[2], cell[3], cell[count]) }
-        else if (cell[count] ~ /`[a-z]+\/(specs|proofs|src)\/[^`]*\.(antt|rt)`/) check_files(where, text, cell[count])
+        else if (cell[count] ~ /`[a-z_]+\/(specs|proofs|src)\/[^`]*\.(antt|rt)`/) check_files(where, text, cell[count])
         else check_names(where, line)
     }
 
