@@ -181,7 +181,8 @@ parts-fits one two K N win con =
     let alone : ℕ → List ℕ → List Check = λ which bytes. stage_checks which K N (stated bytes) (all_safe K (stated bytes).controllers) in
     let few : (which : ℕ) (bytes : List ℕ) → which ≤ 2 → Each Few (alone which bytes) =
     λ which bytes w. stage-few which K N (stated bytes) (all_safe K (stated bytes).controllers) w in
-    judged-fits (λ (s : Solved). s.answer) (unsolved win con) (solved_from K both X win con) (λ c. refl) (parts_checks one two K N win con) (
+    judged-fits (λ (s : Solved). s.answer) (unsolved win con) (solved_from K both X win con) (λ c. refl)
+    (parts_checks one two K N win con) (
       λ _. none,
       λ _. (
         λ _. none,

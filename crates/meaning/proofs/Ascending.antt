@@ -46,7 +46,8 @@ before_trans (x ∷ xs) (y ∷ ys) (z ∷ zs) b c = go (before_cases x y xs ys b
 pub keep-ascends : (f : List ℕ → Bool) (xs : List (List ℕ)) → Ascending xs → Ascending (keep f xs)
 keep-ascends f [] none = none
 keep-ascends f (x ∷ xs) (more p a) =
-    keep_one_lem (f x) x (keep f xs) Ascending (λ _. more (λ y m. p y (keep-member f xs y m)) (keep-ascends f xs a)) (λ _. keep-ascends f xs a)
+    keep_one_lem (f x) x (keep f xs) Ascending (λ _. more (λ y m. p y (keep-member f xs y m)) (keep-ascends f xs a))
+    (λ _. keep-ascends f xs a)
 
 pub append-ascends : (xs ys : List (List ℕ)) → Ascending xs → Ascending ys
     → ((x y : List ℕ) → Memᴰ x xs → Memᴰ y ys → before x y ≡ true) → Ascending (xs ++ ys)

@@ -104,7 +104,8 @@ module _ (n first : ℕ) (some : 0 < n) (output : ℕ → ℕ) (next : ℕ → �
   block_last s = ap (λ (k : ℕ). row (block s) (k - 1)) (block-long s) ∙ tab-at n (block_row s) (n - 1) no_row (omega arith)
 
   -- from the last row of a block to the first of the next
-  seam : (s r : ℕ) → (r ≡ s → ⊥) → (r ≡ first → ⊥) → (s ≡ first) ⊎ (s < r) → goes_on first (n - 1) (block_row s (n - 1)) (block_row r 0) ≡ true
+  seam : (s r : ℕ) → (r ≡ s → ⊥) → (r ≡ first → ⊥) → (s ≡ first) ⊎ (s < r) → goes_on first (n - 1) (block_row s (n - 1)) (block_row r 0)
+      ≡ true
   unfolding goes_on in_order input_goes_on output_stays
   seam s r apart later order =
       rw (ne_eqb r s apart, ne_eqb r first later, eq-eqb (n - 1) (n - 1) refl)

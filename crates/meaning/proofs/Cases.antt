@@ -123,10 +123,10 @@ expected =
     ∷ []
 
 pub C1_to_C12 : map outcome calls ≡ expected
-unfolding flat_map records_of bytes_of limits limit outside ascends same of_kind letters mark_in start_in mark_of starts_of edge_of table_of plus
-    forward safe below back start_position all_safe set_a set_b set_w positions equal rounds winning maximal maximal_members width_of_round full
-    winners position_bytes winners_bytes covering after_round leads_back output_of start_state state_order row_bytes rows_of_state rows_from
-    controller_rows by_kind upward renumber joined pairs refused bound room room_to_join wrong_size descent misnumbered no_start
-    dangling total gap table_checks stage_checks unsolved answered solved_from solve_checks solve other_letters too_large pair_checks
-    join_checks join parts_stages parts_checks parts outcome
+unfolding flat_map records_of bytes_of limits limit outside ascends same of_kind letters mark_in start_in mark_of starts_of edge_of table_of
+    plus forward safe below back start_position all_safe set_a set_b set_w positions equal rounds winning maximal maximal_members
+    width_of_round full winners position_bytes winners_bytes covering after_round leads_back output_of start_state state_order row_bytes
+    rows_of_state rows_from controller_rows by_kind upward renumber joined pairs refused bound room room_to_join wrong_size descent
+    misnumbered no_start dangling total gap table_checks stage_checks unsolved answered solved_from solve_checks solve other_letters
+    too_large pair_checks join_checks join parts_stages parts_checks parts outcome
 C1_to_C12 = refl

@@ -16,7 +16,8 @@ use Rattle.meaning.specs.Records.{Record, records_of, at, blank}
 use Rattle.meaning.specs.Written.{Row}
 use Rattle.meaning.specs.Checks.{wrong_size}
 use Rattle.meaning.specs.Play.{rows_in, row, row_next}
-use Rattle.meaning.specs.Controller.{first_state, last_input, in_order, input_goes_on, output_stays, goes_on, has_rows, leads_on, well_formed}
+use Rattle.meaning.specs.Controller.{first_state, last_input, in_order, input_goes_on, output_stays, goes_on, has_rows, leads_on}
+use Rattle.meaning.specs.Controller.{well_formed}
 use Rattle.meaning.proofs.Tests.{both_left, both_right, neither_left, neither_right, clash, each_at, each_of}
 use Rattle.meaning.proofs.Lists.{member-at, at-member, every-at, every_of, any_at, any_of, place-before, place-holds, place_found}
 use Rattle.meaning.proofs.Searches.{place_is}

@@ -124,7 +124,8 @@ module _ (rs ss : List Record) (pair : Paired rs ss) where
       let of-kind = of_kind-kind kind rs r m in
       omega (arith, value_range r (pair.first.within r in-rs), (sound_stands rs pair.first r in-rs).from_in, ap (home_in rs) of-kind))
 
-  second_growing : (kind : ℕ) → Kind kind → Growing (512 * kind + 64 * home_in rs kind) (map (move_up rs) (of_kind kind ss)) (512 * suc kind)
+  second_growing : (kind : ℕ) → Kind kind → Growing (512 * kind + 64 * home_in rs kind) (map (move_up rs) (of_kind kind ss))
+      (512 * suc kind)
   unfolding table_of
   second_growing kind k =
       let up = 64 * home_in rs kind + away_in rs kind in
@@ -152,7 +153,8 @@ module _ (rs ss : List Record) (pair : Paired rs ss) where
   kind_growing : (kind : ℕ) → Kind kind → Growing (512 * kind) (of_kind kind (rs ++ map (move_up rs) ss)) (512 * suc kind)
   kind_growing kind k =
       subst⁻¹ (λ (l : List Record). Growing (512 * kind) l (512 * suc kind)) (beside-kind kind (controllers_of rs) (worlds_of rs) rs ss)
-      (growing_append (512 * kind) (512 * kind + 64 * home_in rs kind) (512 * suc kind) (of_kind kind rs) (map (move_up rs) (of_kind kind ss))
+      (growing_append (512 * kind) (512 * kind + 64 * home_in rs kind) (512 * suc kind) (of_kind kind rs)
+      (map (move_up rs) (of_kind kind ss))
       (first_growing kind) (second_growing kind k))
 
   joined_growing : Growing 512 (joined rs ss) 2560

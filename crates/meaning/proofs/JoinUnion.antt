@@ -45,7 +45,8 @@ module _ (rs ss : List Record) where
       → at (of_kind kind (joined rs ss)) (length (of_kind kind rs) + i) ≡ move_up rs (at (of_kind kind ss) i)
   joined-at-second kind k i h =
       rw (joined-kind rs ss kind k)
-      (get_or-append-add (of_kind kind rs) (map (move_up rs) (of_kind kind ss)) i blank ∙ map_at (move_up rs) (of_kind kind ss) i blank blank h)
+      (get_or-append-add (of_kind kind rs) (map (move_up rs) (of_kind kind ss)) i blank
+      ∙ map_at (move_up rs) (of_kind kind ss) i blank blank h)
 
   -- what a join keeps of a state's record: all but its number, and so whatever is read from the rest of it
   joined_keeps : {A : Type 0} (read : Record → A)

@@ -116,7 +116,8 @@ module _ {A : Type 0} where
       (Memᴰ.cases_cons m)
 
   -- keep
-  pub keep_one_lem : (b : Bool) (x : A) (r : List A) (P : List A → Type 0) → (b ≡ true → P (x ∷ r)) → (b ≡ false → P r) → P (cond b (x ∷ r) r)
+  pub keep_one_lem : (b : Bool) (x : A) (r : List A) (P : List A → Type 0) → (b ≡ true → P (x ∷ r)) → (b ≡ false → P r)
+      → P (cond b (x ∷ r) r)
   keep_one_lem b x r P p q = cond_cases b (x ∷ r) r P p q
 
   pub keep-member : (f : A → Bool) (xs : List A) (x : A) → Memᴰ x (keep f xs) → Memᴰ x xs

@@ -84,7 +84,8 @@ maximal-holds : (K n : ℕ) (X : Set) → Within X (all_safe K n) → (F : Posit
 maximal-holds K n X safe F w = member_in K n X safe F (maximal-member K n X safe F w)
 
 -- a set Z of pairs, each in it exactly if its first half is in X and its second in Y
-module _ (K n m : ℕ) (X Y Z : Set) (safe_x : Within X (all_safe K n)) (safe_y : Within Y (all_safe K m)) (safe_z : Within Z (all_safe K (n + m)))
+module _ (K n m : ℕ) (X Y Z : Set) (safe_x : Within X (all_safe K n)) (safe_y : Within Y (all_safe K m))
+    (safe_z : Within Z (all_safe K (n + m)))
     (halves : (F G : Position) → length F ≡ n → Z (F ++ G) ≡ (X F && Y G)) where
   size_x : (F : Position) → X F ≡ true → length F ≡ n
   size_x F x = all_safe-length K n F (safe_x F x)

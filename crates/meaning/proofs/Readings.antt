@@ -20,7 +20,8 @@ use Rattle.meaning.proofs.Rows.{rows_back}
 use Rattle.meaning.proofs.Buffers.{position_bytes_lem, rows-bytes}
 
 -- each winner is a position of the table
-pub winner_length : (K : ℕ) (t : Table) (X : Set) (i : ℕ) → i < length (winners K t X) → length (get_or (winners K t X) i []) ≡ t.controllers
+pub winner_length : (K : ℕ) (t : Table) (X : Set) (i : ℕ) → i < length (winners K t X) → length (get_or (winners K t X) i [])
+    ≡ t.controllers
 unfolding winners maximal_members
 winner_length K t X i h =
     let n = t.controllers in

@@ -54,7 +54,8 @@ records_ascending (r ∷ s ∷ rs) p = go (records_ascending (s ∷ rs) (λ i h.
     go : Ascending (map four_of (s ∷ rs)) → Ascending (map four_of (r ∷ s ∷ rs))
     go (more q a) =
         more
-        (λ y m. ⊎_elim (λ (e : y ≡ four_of s). ap (before (four_of r)) e ∙ first) (λ k. before_trans (four_of r) (four_of s) y first (q y k))
+        (λ y m. ⊎_elim (λ (e : y ≡ four_of s). ap (before (four_of r)) e
+        ∙ first) (λ k. before_trans (four_of r) (four_of s) y first (q y k))
         (mathlib.Core.List.Memᴰ.cases_cons m))
         (more q a)
 
@@ -82,7 +83,8 @@ same_bytes one two p q same =
     let ss = records_of two in
     let along : (rs ss : List Record) → ((r : Record) → Memᴰ r rs → Memᴰ r ss) → (x : List ℕ) → Memᴰ x (map four_of rs)
     → Memᴰ x (map four_of ss) =
-    λ rs ss f x m. let found = mathlib.Core.List.Memᴰ.of_map four_of rs m in mathlib.Core.List.Memᴰ.cast (sym found.2) (mathlib.Core.List.Memᴰ.map four_of (f found.0 found.1)) in
+    λ rs ss f x m. let found = mathlib.Core.List.Memᴰ.of_map four_of rs m in mathlib.Core.List.Memᴰ.cast (sym found.2)
+    (mathlib.Core.List.Memᴰ.map four_of (f found.0 found.1)) in
     let fours =
     ascending-equal (map four_of rs) (map four_of ss) (records_ascending rs (passes_sound 0 one p).ascending)
     (records_ascending ss (passes_sound 0 two q).ascending) (along rs ss (λ r. (same r).0)) (along ss rs (λ r. (same r).1)) in

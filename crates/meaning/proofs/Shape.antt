@@ -98,8 +98,11 @@ module _ (rows : List Row) (f : Formed rows) where
   -- and from a row to any later one of its state
   kept_on : (i d : ℕ) → i + d < length rows → state (i + d) ≡ state i
       → ((row rows (i + d)).output ≡ (row rows i).output) × ((row rows (i + d)).input ≡ (row rows i).input + d)
-  kept_on i zero l e =
-      (ap (λ (j : ℕ). (row rows j).output) (add-zero i), ap (λ (j : ℕ). (row rows j).input) (add-zero i) ∙ sym (add-zero (row rows i).input))
+  kept_on i zero l e = (
+    ap (λ (j : ℕ). (row rows j).output) (add-zero i),
+    ap (λ (j : ℕ). (row rows j).input) (add-zero i)
+        ∙ sym (add-zero (row rows i).input),
+  )
   kept_on i (suc d) l e = go (kept_on i d (omega (arith, l)) before)
     where
       step : i + suc d ≡ suc (i + d)

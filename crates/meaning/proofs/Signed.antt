@@ -1,6 +1,6 @@
--- The paper's signed counts, read one higher (`one_higher`), are the counts of the definitions: the greater of two (`greater_signed`), a run
--- that enters a state (`plus_signed_lem`), the step back (`less_signed_lem`) and a winners' byte (`lower_signed`). By cases on the signs. Then the
--- ends by name: -1 stays -1 going forward, K + 1 is reached and seen, and the step back floors at -1.
+-- The paper's signed counts, read one higher (`one_higher`), are the counts of the definitions: the greater of two (`greater_signed`), a
+-- run that enters a state (`plus_signed_lem`), the step back (`less_signed_lem`) and a winners' byte (`lower_signed`). By cases on the
+-- signs. Then the ends by name: -1 stays -1 going forward, K + 1 is reached and seen, and the step back floors at -1.
 use mathlib.Core.Path.{◌≡◌, refl, sym, ap, ◌∙◌}
 use mathlib.Core.Bool.{true, false, true≢false}
 use Prim.Native.Nat.{ℕ, zero, suc, ◌+◌, ◌-◌, ◌≤◌, ◌<◌, min, max, zero-le}

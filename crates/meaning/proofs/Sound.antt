@@ -108,7 +108,8 @@ passes_sound which bytes p =
       leads = check 6 (bound 0) (lit< tt);
     }
 
-pub sound_passes : (which : ℕ) (bytes : List ℕ) → wrong_size 4160 bytes ≡ false → Sound (records_of bytes) → Passes (table_checks which bytes)
+pub sound_passes : (which : ℕ) (bytes : List ℕ) → wrong_size 4160 bytes ≡ false → Sound (records_of bytes)
+    → Passes (table_checks which bytes)
 unfolding table_checks
 sound_passes which bytes size s =
     let rs = records_of bytes in
@@ -193,7 +194,8 @@ other_which which other bytes p = sound_passes other bytes (passes-length which 
 pub passes-first : (one two : List ℕ) → Passes (pair_checks one two) → (which : ℕ) → Passes (table_checks which one)
 unfolding pair_checks
 passes-first one two p which =
-    other_which 1 which one (passes-left (table_checks 1 one) (table_checks 2 two) (passes-left (table_checks 1 one ++ table_checks 2 two) _ p))
+    other_which 1 which one (passes-left (table_checks 1 one) (table_checks 2 two)
+    (passes-left (table_checks 1 one ++ table_checks 2 two) _ p))
 
 pub passes-second : (one two : List ℕ) → Passes (pair_checks one two) → (which : ℕ) → Passes (table_checks which two)
 unfolding pair_checks
@@ -223,7 +225,8 @@ passes-paired one two p =
       worlds-few = ltb-false 8 (t.worlds + u.worlds) (neither_right controllers worlds sizes);
     }
 
-pub paired-passes : (one two : List ℕ) → Passes (table_checks 1 one) → Passes (table_checks 2 two) → Paired (records_of one) (records_of two)
+pub paired-passes : (one two : List ℕ) → Passes (table_checks 1 one) → Passes (table_checks 2 two)
+    → Paired (records_of one) (records_of two)
     → Passes (pair_checks one two)
 unfolding pair_checks other_letters too_large
 paired-passes one two p q pair =

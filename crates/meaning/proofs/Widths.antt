@@ -152,7 +152,8 @@ module _ (K : ℕ) (t u whole other : Table) (un : Union t u whole) (on : Union 
       ap (ltb N)
       (ap (λ (r : ℕ). largest (suc r) (width whole)) (sym (swap_rounds K t u whole other un on))
       ∙ largest-same (suc (rounds K other (all_safe K other.controllers))) (width whole) (width other)
-      (λ r _. width_same (from_safe K whole r) (from_safe K other r) (from_safe-safe K whole r) (from_safe-safe K other r) (forth r) (back r)))
+      (λ r _. width_same (from_safe K whole r) (from_safe K other r) (from_safe-safe K whole r) (from_safe-safe K other r) (forth r)
+      (back r)))
 
   -- and there are as many winners
   pub swap_winners : length (winners K whole (all_safe K whole.controllers)) ≡ length (winners K other (all_safe K other.controllers))
@@ -160,4 +161,5 @@ module _ (K : ℕ) (t u whole other : Table) (un : Union t u whole) (on : Union 
   swap_winners =
       rw (swap_rounds K t u whole other un on)
       (let r = rounds K whole (all_safe K whole.controllers) in
-      controllers-number (from_safe K whole r) (from_safe K other r) (from_safe-safe K whole r) (from_safe-safe K other r) (forth r) (back r))
+      controllers-number (from_safe K whole r) (from_safe K other r) (from_safe-safe K whole r) (from_safe-safe K other r) (forth r)
+      (back r))

@@ -12,7 +12,8 @@ use native.Mathlib.Omega.{arith}
 use lib.ListN.{length, length-map}
 use Rattle.meaning.specs.Table.{Half, Table, on_output, on_input, Small}
 use Rattle.meaning.specs.Counting.{Position, back}
-use Rattle.meaning.specs.Rounds.{Set, all_safe, set_a, set_b, set_w, rounds, winning, maximal_members, full, Crowded, Down, Within, FirstSet}
+use Rattle.meaning.specs.Rounds.{Set, all_safe, set_a, set_b, set_w, rounds, winning, maximal_members, full, Crowded, Down, Within}
+use Rattle.meaning.specs.Rounds.{FirstSet}
 use Rattle.meaning.specs.Rounds.{in-A, in-B, in-W}
 use Rattle.meaning.specs.Written.{position_bytes, winners}
 use Rattle.meaning.proofs.Tests.{refuted, below_last}

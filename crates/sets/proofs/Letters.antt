@@ -181,7 +181,8 @@ module _ (K : ℕ) (t : Table) (W : Set) (down : Down W) (safe : Within W (all_s
       back_in : (F : Position) → Memᴰ F backs → all_safe K t.controllers F ≡ true
       back_in F m =
           let (G, g, e) = Memᴰ.of_map (back K (on_output t k)) (maximal_members K t.worlds (set_a K t W t.inputs)) m in
-          rw (← e) (all_safe-of K t.controllers (back K (on_output t k) G) (back-length K (on_output t k) G) (back-safe K (on_output t k) G))
+          rw (← e) (all_safe-of K t.controllers (back K (on_output t k) G) (back-length K (on_output t k) G)
+          (back-safe K (on_output t k) G))
 
       inside : (F : Position) → Memᴰ F (members ++ backs) → set_b K t W (suc k) F ≡ true
       inside F m =

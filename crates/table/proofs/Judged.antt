@@ -54,7 +54,8 @@ judge_cases which (c ∷ cs) refuse grant = go c.failed refl (judge_cases which 
   where
     go : (b : Bool) → c.failed ≡ b
         → judge (map (of_table which) cs) refuse grant ≡ by_checked (λ r p. refuse (failed_check which r p)) grant (checked_of cs)
-        → judge (map (of_table which) (c ∷ cs)) refuse grant ≡ by_checked (λ r p. refuse (failed_check which r p)) grant (checked_of (c ∷ cs))
+        → judge (map (of_table which) (c ∷ cs)) refuse grant ≡ by_checked (λ r p. refuse (failed_check which r p)) grant
+        (checked_of (c ∷ cs))
     go true e rest = rw e
     go false e rest = rw e rest
 

@@ -47,6 +47,7 @@ pub meets_around : (Es : List Position) (F : Position) (rest Gs : List Position)
 unfolding meets flat_map
 meets_around Es F rest Gs = meets-append Es (F ∷ rest) Gs
 
-pub meets-more : (Es : List Position) (F : Position) (Gs : List Position) → meets (Es ++ F ∷ []) Gs ≡ meets Es Gs ++ map (lesser_counts F) Gs
+pub meets-more : (Es : List Position) (F : Position) (Gs : List Position) → meets (Es ++ F ∷ []) Gs
+    ≡ meets Es Gs ++ map (lesser_counts F) Gs
 unfolding meets flat_map
 meets-more Es F Gs = meets_around Es F [] Gs ∙ ap (λ (l : List Position). meets Es Gs ++ l) (append-nil (map (lesser_counts F) Gs))

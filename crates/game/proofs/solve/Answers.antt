@@ -66,7 +66,8 @@ pub returns-in-Fails : goal.returns-in-Fails
 returns-in-Fails c =
     let given = c.args in
     solve-table given.table.now given.k given.room given.winners.now given.controller.now c.if-k-gt7.false
-    (room-passes given.room given.winners.now given.controller.now c.small_room.ensures c.if-small_room.false) (sym (reading_checked given.table.now c.check-reading.ensures) ∙ c.in-Fails.is)
+    (room-passes given.room given.winners.now given.controller.now c.small_room.ensures c.if-small_room.false)
+    (sym (reading_checked given.table.now c.check-reading.ensures) ∙ c.in-Fails.is)
     c.refused-in-Fails.ensures
 
 pub stage-requires : goal.stage-requires
@@ -105,4 +106,5 @@ returns c =
       brim-covered given.k (stated bytes) fit.small,
     ) at c.stage.ensures)
     ∙ (solve-stage bytes given.k given.room given.winners.now given.controller.now c.if-k-gt7.false
-    (room-passes given.room given.winners.now given.controller.now c.small_room.ensures c.if-small_room.false) (table-passes bytes reading told passed))
+    (room-passes given.room given.winners.now given.controller.now c.small_room.ensures c.if-small_room.false)
+    (table-passes bytes reading told passed))

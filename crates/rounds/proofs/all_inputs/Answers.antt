@@ -33,8 +33,11 @@ pub loop-input-init : goal.loop-input-init
 unfolding members list_a table_in
 loop-input-init c =
     let given = c.args in
-    let stored = members_store given.a.now 0 c.brim.result (omega arith) in
-    (zero-le, runs_none _ (omega arith) (omega (arith, as_long c.args.a.now c.brim.result)) refl (stored ∙ ap (λ (F : Position). F ∷ []) c.brim.ensures))
+    let stored = members_store given.a.now 0 c.brim.result (omega arith) in (
+      zero-le,
+      runs_none _ (omega arith) (omega (arith, as_long c.args.a.now c.brim.result)) refl (stored
+          ∙ ap (λ (F : Position). F ∷ []) c.brim.ensures),
+    )
 
 pub cut-found-requires : goal.cut-found-requires
 cut-found-requires c =

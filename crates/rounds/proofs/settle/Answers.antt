@@ -42,12 +42,14 @@ loop-left-init c =
 
 pub returns-in_default : goal.returns-in_default
 returns-in_default c =
-    settles_round-full c.requires.5 c.loop-left.invariant.2 (full-last c.next_round-found.ensures (full-otherwise _ c.in_default.not-Number))
+    settles_round-full c.requires.5 c.loop-left.invariant.2 (full-last c.next_round-found.ensures
+    (full-otherwise _ c.in_default.not-Number))
 
 pub same-requires : goal.same-requires
 same-requires c =
     let given = c.args in
-    let held = round-held given.k given.room _ (table_in given.table) (members c.loop-left.w c.loop-left.wn) c.next_round-found.ensures c.in-Number.is in
+    let held = round-held given.k given.room _ (table_in given.table) (members c.loop-left.w c.loop-left.wn) c.next_round-found.ensures
+    c.in-Number.is in
     (omega arith, omega (arith, held.1, c.next_round-found.auto.next))
 
 pub overflow_add-rounds : goal.overflow_add-rounds
@@ -67,7 +69,8 @@ loop-left-smaller c =
 pub loop-left-preserved : goal.loop-left-preserved
 loop-left-preserved c =
     let given = c.args in
-    let held = round-held given.k given.room _ (table_in given.table) (members c.loop-left.w c.loop-left.wn) c.next_round-found.ensures c.in-Number.is in
+    let held = round-held given.k given.room _ (table_in given.table) (members c.loop-left.w c.loop-left.wn) c.next_round-found.ensures
+    c.in-Number.is in
     let differs : (next_list given.k (table_in given.table) (members c.loop-left.w c.loop-left.wn)
     ≡ members c.loop-left.w c.loop-left.wn) → ⊥ =
     λ e. clash _ (c.same.ensures.1 (sym (held.2 ∙ e))) c.if-same.false in (
@@ -83,7 +86,8 @@ copy-requires-2 c =
 pub returns : goal.returns
 returns c =
     let given = c.args in
-    let held = round-held given.k given.room _ (table_in given.table) (members c.loop-left.w c.loop-left.wn) c.next_round-found.ensures c.in-Number.is in
+    let held = round-held given.k given.room _ (table_in given.table) (members c.loop-left.w c.loop-left.wn) c.next_round-found.ensures
+    c.in-Number.is in
     let repeats = sym held.2 ∙ sym (c.same.ensures.0 c.if-same.true) in
     settles_repeat c.requires.5 c.loop-left.invariant.2 held.0 repeats (sym (members-length c.loop-left.w c.loop-left.wn (omega arith)))
     c.copy-2.ensures

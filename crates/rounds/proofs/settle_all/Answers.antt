@@ -28,7 +28,8 @@ settle-requires c =
       omega arith,
       omega arith,
       omega arith,
-      rw (brim-listed given.k (table_in given.table).controllers _ c.brim.ensures) (brim-first given.k (table_in given.table) c.requires.4 c.requires.5),
+      rw (brim-listed given.k (table_in given.table).controllers _ c.brim.ensures)
+          (brim-first given.k (table_in given.table) c.requires.4 c.requires.5),
     )
 
 pub returns : goal.returns

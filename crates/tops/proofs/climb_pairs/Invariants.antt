@@ -11,7 +11,8 @@ use Rattle.tops.specs.Candidates.{climbed}
 use Rattle.tops.proofs.climb_pairs.Given as goal
 
 abbrev pub invariant-loop-i : goal.invariant-loop-i
-invariant-loop-i l = (l.i ≤ length l.xs) × (counts_in l.top ≡ climbed (meets (members l.xs l.i) (map counts_in l.ys)) (counts_in l.initial.top))
+invariant-loop-i l = (l.i ≤ length l.xs) × (counts_in l.top ≡ climbed (meets (members l.xs l.i) (map counts_in l.ys))
+    (counts_in l.initial.top))
 
 abbrev pub decreases-loop-i : goal.decreases-loop-i
 decreases-loop-i l = length l.xs - l.i

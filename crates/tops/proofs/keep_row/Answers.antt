@@ -62,7 +62,8 @@ returns-then-number-room c =
     let all = given.row.now in
     let j = c.candidates.j in
     rw (members-split all j given.n c.candidates-test.true (omega arith))
-    (collects_full c.candidates.invariant.1 (counts_in (get_or all j 0)) (scanned _ _ _ _ c.loop-i-test.false c.loop-i.invariant.1) (omega arith)
+    (collects_full c.candidates.invariant.1 (counts_in (get_or all j 0)) (scanned _ _ _ _ c.loop-i-test.false c.loop-i.invariant.1)
+    (omega arith)
     (members-after all j given.n) c.if-number-room.true)
 
 pub candidates-preserved : goal.candidates-preserved
@@ -71,7 +72,8 @@ candidates-preserved c =
     let j = c.candidates.j in (
       omega arith,
       rw (members-more all j (omega arith))
-          (collects_put c.candidates.invariant.1 (counts_in (get_or all j 0)) (scanned _ _ _ _ c.loop-i-test.false c.loop-i.invariant.1) (omega arith) c.climb_pairs.result
+          (collects_put c.candidates.invariant.1 (counts_in (get_or all j 0)) (scanned _ _ _ _ c.loop-i-test.false c.loop-i.invariant.1)
+          (omega arith) c.climb_pairs.result
           c.climb_pairs.ensures
           (omega arith)),
     )

@@ -65,10 +65,12 @@ returns-in_default c =
     holds-full _
     (omega (
       arith,
-      full-held {l = with_row given.xs.now c.loop-i.i given.xn others kept row} c.keep_row-found.ensures (full-otherwise _ c.in_default.not-Number),
+      full-held {l = with_row given.xs.now c.loop-i.i given.xn others kept row} c.keep_row-found.ensures
+          (full-otherwise _ c.in_default.not-Number),
       rows_grow (words-from given.xs.now (c.loop-i.i + 1) given.xn) others (with_row given.xs.now c.loop-i.i given.xn others kept row),
       ap length
-          (stepped given.xs.now c.loop-i.i given.xn c.loop-i-test.true (omega arith) others kept row _ c.row-n.ensures.1 c.loop-i.invariant.4),
+          (stepped given.xs.now c.loop-i.i given.xn c.loop-i-test.true (omega arith) others kept row _ c.row-n.ensures.1
+          c.loop-i.invariant.4),
     ))
 
 pub loop-i-preserved : goal.loop-i-preserved
@@ -84,7 +86,8 @@ loop-i-preserved c =
       c.keep_row-found.auto.out ∙ c.loop-i.invariant.2,
       c.row-n.auto.out ∙ c.loop-i.invariant.3,
       rw held.1
-          (stepped given.xs.now c.loop-i.i given.xn c.loop-i-test.true (omega arith) others kept row _ c.row-n.ensures.1 c.loop-i.invariant.4),
+          (stepped given.xs.now c.loop-i.i given.xn c.loop-i-test.true (omega arith) others kept row _ c.row-n.ensures.1
+          c.loop-i.invariant.4),
     )
 
 pub returns : goal.returns

@@ -18,7 +18,8 @@ use Rattle.tops.proofs.pairs.Goals as goal
 
 -- where the pairs that are in a list are kept: those of the one list that the other covers, and what those of the other add
 whole-kept : (A E : List Position) {room : ℕ} {kept fits : List Position} {out : List ℕ} {found : Found} → kept ≡ keep (covered E) A
-    → fits ≡ keep (covered A) E → Holds room (collected [] kept fits) out found → Holds room (collected [] (keep (covered E) A) (keep (covered A) E)) out found
+    → fits ≡ keep (covered A) E → Holds room (collected [] kept fits) out found
+    → Holds room (collected [] (keep (covered E) A) (keep (covered A) E)) out found
 whole-kept A E e d h = rw (e, d) at h
 
 pub returns-then-room-whole : goal.returns-then-room-whole
@@ -45,7 +46,8 @@ returns-in_default c =
     holds-full _
     (omega (
       arith,
-      full-held (whole-kept (members c.args.set.now c.args.n) (members c.args.backs.now c.args.m) c.part-whole.ensures.1 c.part-fitting.ensures.1 c.keep_list-found.ensures)
+      full-held (whole-kept (members c.args.set.now c.args.n) (members c.args.backs.now c.args.m) c.part-whole.ensures.1
+          c.part-fitting.ensures.1 c.keep_list-found.ensures)
           (full-otherwise _ c.in_default.not-Number),
       rows_grow (keep (uncovered E) A) (keep (uncovered A) E) (collected [] (keep (covered E) A) (keep (covered A) E)),
     ))
@@ -55,12 +57,14 @@ keep_rows-requires c = (
   omega arith,
   omega arith,
   omega arith,
-  (number-held (whole-kept (members c.args.set.now c.args.n) (members c.args.backs.now c.args.m) c.part-whole.ensures.1 c.part-fitting.ensures.1 c.keep_list-found.ensures) c.in-Number.is).0,
+  (number-held (whole-kept (members c.args.set.now c.args.n) (members c.args.backs.now c.args.m) c.part-whole.ensures.1
+      c.part-fitting.ensures.1 c.keep_list-found.ensures) c.in-Number.is).0,
   omega arith,
 )
 
 pub returns : goal.returns
 unfolding paired
 returns c =
-    let held = number-held (whole-kept (members c.args.set.now c.args.n) (members c.args.backs.now c.args.m) c.part-whole.ensures.1 c.part-fitting.ensures.1 c.keep_list-found.ensures) c.in-Number.is in
+    let held = number-held (whole-kept (members c.args.set.now c.args.n) (members c.args.backs.now c.args.m) c.part-whole.ensures.1
+    c.part-fitting.ensures.1 c.keep_list-found.ensures) c.in-Number.is in
     rw (c.part-whole.ensures.2, c.part-fitting.ensures.2, held.1) at c.keep_rows.ensures

@@ -42,7 +42,15 @@ loop-i-preserved c =
               members-more all i (omega arith),
               keep-more (covered others) (members all i) (counts_in p) test,
             ),
-            rw (w.rest-is, w.held-is, e, inv.5, members-more all i (omega arith), keep_past (uncovered others) (members all i) (counts_in p) (ap not test)),
+            rw (
+              w.rest-is,
+              w.held-is,
+              e,
+              inv.5,
+              members-more all i (omega arith),
+              keep_past (uncovered others) (members all i) (counts_in p)
+                  (ap not test),
+            ),
           )
       | else-covers w ↦
           let test : covered others (counts_in p) ≡ false = sym c.covers.ensures ∙ w.if-covers.false in
@@ -51,7 +59,14 @@ loop-i-preserved c =
             rw w.held-is (omega arith),
             rw w.taken-is inv.2,
             rw (w.rest-is, length-set c.loop-i.rest (i - held) p) inv.3,
-            rw (w.taken-is, w.held-is, inv.4, members-more all i (omega arith), keep_past (covered others) (members all i) (counts_in p) test),
+            rw (
+              w.taken-is,
+              w.held-is,
+              inv.4,
+              members-more all i (omega arith),
+              keep_past (covered others) (members all i) (counts_in p)
+                  test,
+            ),
             rw (
               w.rest-is,
               w.held-is,

@@ -10,7 +10,8 @@ use Rattle.tops.proofs.thin.Given as goal
 
 abbrev pub invariant-loop-i : goal.invariant-loop-i
 invariant-loop-i l =
-    (l.kept + l.i ≤ l.n) × (length l.out ≡ length l.initial.out) × (foldr thin_one (members l.out l.kept) (members l.set l.i) ≡ thinned (members l.set l.n))
+    (l.kept + l.i ≤ l.n) × (length l.out ≡ length l.initial.out)
+    × (foldr thin_one (members l.out l.kept) (members l.set l.i) ≡ thinned (members l.set l.n))
 
 abbrev pub decreases-loop-i : goal.decreases-loop-i
 decreases-loop-i l = l.i

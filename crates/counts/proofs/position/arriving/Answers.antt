@@ -35,7 +35,11 @@ loop-p-preserved c =
             let more = ap one_higher (rw (from_bits w.plus.result w.plus.type_inv) at w.greater-most.ensures) ∙ greater_signed _ _ in
             rw (w.most-is, from_bits w.greater-most.result w.greater-most.type_inv)
             (omega (arith, one, more, next sum (rw (lt-ltb p n w.if-p-half.true, sym w.has.ensures ∙ w.if-has.true))))
-        | then-p-half+else-has w ↦ rw w.most-is (omega (arith, next 0 (rw (lt-ltb p n w.if-p-half.true, sym w.has.ensures ∙ w.if-has.false))))
+        | then-p-half+else-has w ↦ rw w.most-is (omega (
+          arith,
+          next 0
+              (rw (lt-ltb p n w.if-p-half.true, sym w.has.ensures ∙ w.if-has.false)),
+        ))
         | else-p-half w ↦ rw w.most-is (omega (arith, next 0 (rw (le-ltb p n w.if-p-half.false))))
       ],
     )

@@ -31,7 +31,8 @@ loop-q-preserved c =
     let next = packed_wide (tab n (λ _. k + 1)) q c.loop-q.word c.loop-q.invariant in
     elim c.if-q-n.branch [
       | then-q-n w ↦ rw w.word-is (next (k + 1) l (omega arith) (tab-at n (λ _. k + 1) q 0 w.if-q-n.true))
-      | else-q-n w ↦ rw (w.word-is, ← add-zero (c.loop-q.word * 256)) (next 0 l (omega arith) (tab_beyond n (λ _. k + 1) q 0 w.if-q-n.false))
+      | else-q-n w ↦ rw (w.word-is, ← add-zero (c.loop-q.word * 256))
+          (next 0 l (omega arith) (tab_beyond n (λ _. k + 1) q 0 w.if-q-n.false))
     ]
 
 pub returns : goal.returns

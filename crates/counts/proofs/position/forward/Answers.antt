@@ -53,7 +53,8 @@ loop-q-preserved c =
       | then-q-half w ↦ let byte = (rw (from_bits w.arriving.result w.arriving.type_inv) at w.to_byte.ensures) ∙ w.arriving.ensures in
           rw w.word-is (next w.to_byte.result l (omega (arith, byte, brought-low k half F q, at.requires))
           (sym (byte ∙ forward-brought k half F q w.if-q-half.true)))
-      | else-q-half w ↦ rw (w.word-is, ← add-zero (at.loop-q.word * 256)) (next 0 l (omega arith) (forward-none k half F q w.if-q-half.false))
+      | else-q-half w ↦ rw (w.word-is, ← add-zero (at.loop-q.word * 256))
+          (next 0 l (omega arith) (forward-none k half F q w.if-q-half.false))
     ]
 
 pub returns : goal.returns

@@ -72,7 +72,8 @@ loop-q-preserved c =
           ∙ ap one_higher w.plus.ensures ∙ plus_signed_lem _ _ (pos 0) in
           rw w.word-is (next w.to_byte.result l (omega (arith, byte, plus-low k (get_or marks q 0) 1, at.requires))
           ((rw (sym w.has.ensures ∙ w.if-has.true) at (begun w.if-q-n.true)) ∙ sym byte))
-      | then-q-n+else-has w ↦ rw (w.word-is, ← none) (next 0 l (omega arith) (rw (sym w.has.ensures ∙ w.if-has.false) at (begun w.if-q-n.true)))
+      | then-q-n+else-has w ↦ rw (w.word-is, ← none) (next 0 l (omega arith)
+          (rw (sym w.has.ensures ∙ w.if-has.false) at (begun w.if-q-n.true)))
       | else-q-n w ↦ rw (w.word-is, ← none) (next 0 l (omega arith) (starts-beyond k n starts marks q w.if-q-n.false))
     ]
 

@@ -31,7 +31,8 @@ loop-q-preserved c =
             ∙ ap (λ n. n - get_or half.marks q 0) w.at.ensures in
             let byte : w.to_byte.result ≡ one_higher w.less-eased.result
             = rw (from_bits w.less-eased.result w.less-eased.type_inv) at w.to_byte.ensures in
-            rw w.low-is (lowered_by half F given.most q low before (get_or given.bars.now q 0) w.to_byte.result w.lesser-low.result w.if-q-half.true
+            rw w.low-is (lowered_by half F given.most q low before (get_or given.bars.now q 0) w.to_byte.result w.lesser-low.result
+            w.if-q-half.true
             (at.requires q w.if-q-half.true (omega arith)) (byte ∙ eased) (omega (arith, byte, eased, counts_in-low given.m q))
             w.lesser-low.ensures)
         | else-q-half w ↦ rw w.low-is (lowered_still half F given.most q low before w.if-q-half.false)

@@ -20,7 +20,11 @@ loop-q-preserved c =
         below_more _ q (λ i l k. rw (get_or-set_other out q i w.bar.result 0 (λ s. omega arith)) (c.loop-q.invariant.1 i l k))
             (λ k. rw (get_or-set_same out q w.bar.result 0 (omega arith)) w.bar.ensures),
       )
-      | else-q-half w ↦ rw w.out-is (c.loop-q.invariant.0, below_more _ q c.loop-q.invariant.1 (λ k. absurd (omega (arith, w.if-q-half.false))))
+      | else-q-half w ↦ rw w.out-is (
+        c.loop-q.invariant.0,
+        below_more _ q c.loop-q.invariant.1
+            (λ k. absurd (omega (arith, w.if-q-half.false))),
+      )
     ]
 
 pub returns : goal.returns

@@ -18,13 +18,17 @@ case : (a b x y : ℕ) → x ≡ flags 8 a b → y ≡ flags 8 b a → (under ov
 case a b x y ex ey under over u o = sym (compared_words a b ∙ ap₂ told (rw ex at u) (rw ey at o))
 
 pub returns-then-over : goal.returns-then-over
-returns-then-over c = case c.args.a c.args.b _ _ c.at_most-under.ensures c.at_most-over.ensures true true (eq-eqb _ _ c.if-under.true) (eq-eqb _ _ c.if-over.true)
+returns-then-over c = case c.args.a c.args.b _ _ c.at_most-under.ensures c.at_most-over.ensures true true (eq-eqb _ _ c.if-under.true)
+    (eq-eqb _ _ c.if-over.true)
 
 pub returns-else-over : goal.returns-else-over
-returns-else-over c = case c.args.a c.args.b _ _ c.at_most-under.ensures c.at_most-over.ensures true false (eq-eqb _ _ c.if-under.true) (ne_eqb _ _ c.if-over.false)
+returns-else-over c = case c.args.a c.args.b _ _ c.at_most-under.ensures c.at_most-over.ensures true false (eq-eqb _ _ c.if-under.true)
+    (ne_eqb _ _ c.if-over.false)
 
 pub returns-then-over-2 : goal.returns-then-over-2
-returns-then-over-2 c = case c.args.a c.args.b _ _ c.at_most-under.ensures c.at_most-over.ensures false true (ne_eqb _ _ c.if-under.false) (eq-eqb _ _ c.if-over-2.true)
+returns-then-over-2 c = case c.args.a c.args.b _ _ c.at_most-under.ensures c.at_most-over.ensures false true (ne_eqb _ _ c.if-under.false)
+    (eq-eqb _ _ c.if-over-2.true)
 
 pub returns-else-over-2 : goal.returns-else-over-2
-returns-else-over-2 c = case c.args.a c.args.b _ _ c.at_most-under.ensures c.at_most-over.ensures false false (ne_eqb _ _ c.if-under.false) (ne_eqb _ _ c.if-over-2.false)
+returns-else-over-2 c = case c.args.a c.args.b _ _ c.at_most-under.ensures c.at_most-over.ensures false false (ne_eqb _ _ c.if-under.false)
+    (ne_eqb _ _ c.if-over-2.false)

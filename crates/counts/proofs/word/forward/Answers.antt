@@ -25,7 +25,8 @@ loop-p-preserved c =
         | then-count-gt0 w ↦ rw w.most-is (arrived_next given.spreads.now given.letter given.word p c.loop-p.most _
             w.greater-most.result c.loop-p.invariant.1
             byte w.greater-most.ensures)
-        | else-count-gt0 w ↦ rw w.most-is (arrived_skip given.spreads.now given.letter given.word p c.loop-p.most _ c.loop-p.invariant.1 byte
+        | else-count-gt0 w ↦ rw w.most-is (arrived_skip given.spreads.now given.letter given.word p c.loop-p.most _
+            c.loop-p.invariant.1 byte
             (omega (arith, w.if-count-gt0.false)))
       ],
     )

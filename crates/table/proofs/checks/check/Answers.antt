@@ -154,7 +154,9 @@ returns-then-no_start c =
     let controllers = sym c.misnumbered.ensures ∙ c.if-misnumbered.false in
     let worlds = sym c.misnumbered-else-misnumbered.ensures ∙ c.if-misnumbered-2.false in
     c.refused-then-no_start.ensures
-    ∙ answered bytes (check-fails (table_checks 0 bytes) 4 (lit< tt) (starts bytes sized inside ordered controllers worlds c.read-table.result c.read-table.ensures _ c.no_start.ensures ∙ c.if-no_start.true)
+    ∙ answered bytes (check-fails (table_checks 0 bytes) 4 (lit< tt)
+    (starts bytes sized inside ordered controllers worlds c.read-table.result c.read-table.ensures _ c.no_start.ensures
+    ∙ c.if-no_start.true)
     ∙ sym (after-7 bytes sized inside ordered controllers worlds c.read-table.result c.read-table.ensures))
 
 pub returns-then-stray-records : goal.returns-then-stray-records
@@ -166,11 +168,14 @@ returns-then-stray-records c =
     let ordered = at_none bytes _ _ c.first_descent-late.ensures c.if-late-records.false in
     let controllers = sym c.misnumbered.ensures ∙ c.if-misnumbered.false in
     let worlds = sym c.misnumbered-else-misnumbered.ensures ∙ c.if-misnumbered-2.false in
-    let found = stray bytes sized inside ordered controllers worlds c.read-table.result c.read-table.ensures _ c.first_dangling-stray.ensures in
+    let found = stray bytes sized inside ordered controllers worlds c.read-table.result c.read-table.ensures _
+    c.first_dangling-stray.ensures in
     c.refused-then-stray-records.ensures
     ∙ answered bytes (ap (Fails Edge) found
     ∙ check-fails (table_checks 0 bytes) 5 (lit< tt) (at-record bytes _ _ found c.if-stray-records.true)
-    ∙ sym (after-8 bytes sized inside ordered controllers worlds c.read-table.result c.read-table.ensures (starts bytes sized inside ordered controllers worlds c.read-table.result c.read-table.ensures _ c.no_start.ensures ∙ c.if-no_start.false)))
+    ∙ sym (after-8 bytes sized inside ordered controllers worlds c.read-table.result c.read-table.ensures
+    (starts bytes sized inside ordered controllers worlds c.read-table.result c.read-table.ensures _ c.no_start.ensures
+    ∙ c.if-no_start.false)))
 
 pub returns-then-gap : goal.returns-then-gap
 unfolding table_checks
@@ -182,9 +187,13 @@ returns-then-gap c =
     let controllers = sym c.misnumbered.ensures ∙ c.if-misnumbered.false in
     let worlds = sym c.misnumbered-else-misnumbered.ensures ∙ c.if-misnumbered-2.false in
     c.refused-then-gap.ensures
-    ∙ answered bytes (check-fails (table_checks 0 bytes) 6 (lit< tt) (gaps bytes sized inside ordered controllers worlds c.read-table.result c.read-table.ensures _ c.gap.ensures ∙ c.if-gap.true)
-    ∙ sym (after-9 bytes sized inside ordered controllers worlds c.read-table.result c.read-table.ensures (starts bytes sized inside ordered controllers worlds c.read-table.result c.read-table.ensures _ c.no_start.ensures ∙ c.if-no_start.false) _
-    (stray bytes sized inside ordered controllers worlds c.read-table.result c.read-table.ensures _ c.first_dangling-stray.ensures) c.if-stray-records.false))
+    ∙ answered bytes (check-fails (table_checks 0 bytes) 6 (lit< tt)
+    (gaps bytes sized inside ordered controllers worlds c.read-table.result c.read-table.ensures _ c.gap.ensures ∙ c.if-gap.true)
+    ∙ sym (after-9 bytes sized inside ordered controllers worlds c.read-table.result c.read-table.ensures
+    (starts bytes sized inside ordered controllers worlds c.read-table.result c.read-table.ensures _ c.no_start.ensures
+    ∙ c.if-no_start.false) _
+    (stray bytes sized inside ordered controllers worlds c.read-table.result c.read-table.ensures _ c.first_dangling-stray.ensures)
+    c.if-stray-records.false))
 
 pub returns : goal.returns
 unfolding table_checks
@@ -196,6 +205,10 @@ returns c =
     let controllers = sym c.misnumbered.ensures ∙ c.if-misnumbered.false in
     let worlds = sym c.misnumbered-else-misnumbered.ensures ∙ c.if-misnumbered-2.false in
     ap (λ (t : Table). reading t Passes) c.read-table.ensures
-    ∙ answered bytes (sym (after-9 bytes sized inside ordered controllers worlds c.read-table.result c.read-table.ensures (starts bytes sized inside ordered controllers worlds c.read-table.result c.read-table.ensures _ c.no_start.ensures ∙ c.if-no_start.false) _
-    (stray bytes sized inside ordered controllers worlds c.read-table.result c.read-table.ensures _ c.first_dangling-stray.ensures) c.if-stray-records.false
-    ∙ check-passes (table_checks 0 bytes) 6 (lit< tt) (gaps bytes sized inside ordered controllers worlds c.read-table.result c.read-table.ensures _ c.gap.ensures ∙ c.if-gap.false)))
+    ∙ answered bytes (sym (after-9 bytes sized inside ordered controllers worlds c.read-table.result c.read-table.ensures
+    (starts bytes sized inside ordered controllers worlds c.read-table.result c.read-table.ensures _ c.no_start.ensures
+    ∙ c.if-no_start.false) _
+    (stray bytes sized inside ordered controllers worlds c.read-table.result c.read-table.ensures _ c.first_dangling-stray.ensures)
+    c.if-stray-records.false
+    ∙ check-passes (table_checks 0 bytes) 6 (lit< tt) (gaps bytes sized inside ordered controllers worlds c.read-table.result
+    c.read-table.ensures _ c.gap.ensures ∙ c.if-gap.false)))

@@ -26,8 +26,22 @@ loop-i-preserved c =
       search rules,
       rw (next_record bytes i r c.loop-i-test.true c.at-r.ensures)
           (elim c.if-r-kind.branch [
-            | then-r-kind+then-count-letter w ↦ omega (arith, w.if-count-letter.true, w.count-is, c.loop-i.invariant.1, letters_this kind rs r w.if-r-kind.true)
-            | then-r-kind+else-count-letter w ↦ omega (arith, w.if-count-letter.false, w.count-is, c.loop-i.invariant.1, letters_this kind rs r w.if-r-kind.true)
+            | then-r-kind+then-count-letter w ↦ omega (
+              arith,
+              w.if-count-letter.true,
+              w.count-is,
+              c.loop-i.invariant.1,
+              letters_this kind rs
+                  r w.if-r-kind.true,
+            )
+            | then-r-kind+else-count-letter w ↦ omega (
+              arith,
+              w.if-count-letter.false,
+              w.count-is,
+              c.loop-i.invariant.1,
+              letters_this kind
+                  rs r w.if-r-kind.true,
+            )
             | else-r-kind w ↦ w.count-is ∙ c.loop-i.invariant.1 ∙ sym (letters_other kind rs r w.if-r-kind.false)
           ]),
     )

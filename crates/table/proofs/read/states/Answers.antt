@@ -31,7 +31,8 @@ loop-i-preserved c =
       rw (next_record bytes i r c.loop-i-test.true c.at-r.ensures)
           (elim c.if-r-kind.branch [
             | then-r-kind w ↦ w.count-is ∙ ap (λ (n : ℕ). n + 1) c.loop-i.invariant.1 ∙ sym (states_this kind rs r w.if-r-kind.true)
-            | else-r-kind w ↦ w.count-is ∙ c.loop-i.invariant.1 ∙ ap (λ (l : List Record). length l) (sym (of_kind_other kind rs r w.if-r-kind.false))
+            | else-r-kind w ↦ w.count-is ∙ c.loop-i.invariant.1
+                ∙ ap (λ (l : List Record). length l) (sym (of_kind_other kind rs r w.if-r-kind.false))
           ]),
     )
 
