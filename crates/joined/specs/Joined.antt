@@ -1,6 +1,6 @@
 -- What the checks of two tables come to, the tables that are read in the same go, and the bytes of a join.
 use Rattle.std.specs.Prelude.{◌≡◌, List, map, ℕ, ◌+◌, length}
-use Rattle.std.proofs.lemmas.List.Edits.{sets}
+use lib.Seq.{sets}
 use Rattle.meaning.specs.Records.{Record, bytes_of, of_kind}
 use Rattle.meaning.specs.Join.{renumber}
 use Rattle.meaning.specs.Checks.{Check, judge, pair_checks}
