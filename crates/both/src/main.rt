@@ -4,15 +4,15 @@
 // prints for one table, with the field which.
 #![tactic(auto)]
 
-use lines::files;
-use meaning::Answer;
+use lines::{Fields, files};
+use meaning::Verdict;
 use std::io;
-use std::rt::{Env, Files};
+use std::rt::Env;
 use table::record::INPUT;
 
 fn main(rt: HostRuntime) -> io::Result<()> {
-    let one = open(&rt, 2)?;
-    let two = open(&rt, 3)?;
+    let one = files::open_argument(&rt, 2)?;
+    let two = files::open_argument(&rt, 3)?;
     let (Some(mut one), Some(mut two)) = (one, two) else {
         return Ok(());
     };
@@ -29,61 +29,32 @@ fn main(rt: HostRuntime) -> io::Result<()> {
     }
 }
 
-// Opens the file that an argument names, or says why it can't and answers none. A word that is missing or
-// too long names no file.
-fn open<R: Env + Files + Eprint>(rt: &R, i: usize) -> io::Result<Option<R::File>> {
-    let mut path = [0u8; 4096];
-    let n = rt.arg(i, &mut path).unwrap_or(0);
-    files::open(rt, &path[..n])
-}
-
+// Prints the answer of a join, and the records of the joined table.
 fn join(rt: &impl Print, first: &[u8], second: &[u8]) -> io::Result<()> {
     let mut out = [0u8; 4160];
     let answer = join::join(first, second, &mut out);
-    print_answer(rt, answer)?;
-    let verdict = answer.verdict;
-    if meaning::code(verdict) == 0 {
-        lines::fours(rt, &out, answer.place / 4)?;
+    rt.println(Fields(answer))?;
+    match answer.verdict {
+        Verdict::Realizable(_) => lines::numbers::<4>(rt, &out, answer.place / 4),
+        Verdict::Unrealizable | Verdict::Refused(_) => Ok(()),
     }
-    Ok(())
 }
 
+// Solves by parts for one patience count after the other, and prints what comes of each.
 fn parts(rt: &impl Print, first: &[u8], second: &[u8]) -> io::Result<()> {
-    let mut k = 0;
-    while k < 8 {
-        if parts_at(rt, first, second, k)? != 1 {
-            return Ok(());
-        }
-        k += 1;
-    }
-    Ok(())
-}
-
-// Solves by parts for one patience count, prints what came of it, and answers its code.
-fn parts_at(rt: &impl Print, first: &[u8], second: &[u8], k: usize) -> io::Result<usize> {
     let mut winners = [0u8; 2048];
     let mut controller = [0u8; 8192];
-    let answer = join::parts(first, second, k, 256, &mut winners, &mut controller);
-    lines::field(rt, b"k ", k)?;
-    rt.write_all(b" ")?;
-    print_answer(rt, answer)?;
-    let verdict = answer.verdict;
-    let code = meaning::code(verdict);
-    if code == 0 {
-        let inputs = table::read::letters(first, INPUT);
-        lines::fours(rt, &controller, lines::rows(answer.winners, inputs))?;
+    for k in 0..8 {
+        let answer = join::parts(first, second, k, 256, &mut winners, &mut controller);
+        println!(rt; "k {k} {}", Fields(answer))?;
+        match answer.verdict {
+            Verdict::Realizable(_) => {
+                let inputs = table::read::letters(first, INPUT);
+                return lines::numbers::<4>(rt, &controller, lines::rows(answer.winners, inputs));
+            }
+            Verdict::Unrealizable => {}
+            Verdict::Refused(_) => return Ok(()),
+        }
     }
-    Ok(code)
-}
-
-// An answer's fields by name, to the end of the line.
-fn print_answer(rt: &impl Print, answer: Answer) -> io::Result<()> {
-    let verdict = answer.verdict;
-    lines::field(rt, b"code ", meaning::code(verdict))?;
-    lines::field(rt, b" place ", answer.place)?;
-    lines::field(rt, b" which ", answer.which)?;
-    lines::field(rt, b" rounds ", answer.rounds)?;
-    lines::field(rt, b" winners ", answer.winners)?;
-    lines::field(rt, b" start ", meaning::start(verdict))?;
-    lines::end(rt)
+    Ok(())
 }

@@ -7,6 +7,8 @@ pub mod lay;
 ghost use Rattle.std.specs.Prelude.{◌≡◌, cond, ltb};
 ghost use Rattle.calls.specs.Called.{unanswered as unanswered_for, called, called_solve, called_parts, joins, called_join, CalledCheck};
 
+use meaning::Refusal;
+
 // Solves a table for the patience count k, with room for so many positions.
 pub fn desk_solve(
     table: &[u8],
@@ -30,7 +32,7 @@ pub fn desk_join(first: &[u8], second: &[u8], out: &mut [u8], answer: &mut [u8])
         ≡ called_join first.now second.now out.old answer.old }
 {
     if answer.len() < 24 {
-        return 3;
+        return Refusal::Room as u32;
     }
     let joined = join::join(first, second, out);
     lay::report(joined, answer)
@@ -70,7 +72,11 @@ pub fn desk_check(table: &[u8], k: u32, rows: &[u8], answer: &mut [u8]) -> u32
 fn unanswered(k: u32) -> u32
     ensures { result ≡ unanswered_for k }
 {
-    if 7 < k { 2 } else { 3 }
+    if 7 < k {
+        Refusal::Bound as u32
+    } else {
+        Refusal::Room as u32
+    }
 }
 
 // The room for positions, or none with too short an answer's buffer: which is then refused together

@@ -6,48 +6,46 @@ ghost use Rattle.meaning.specs.Answers.{code_of, join as join_of};
 use crate::print;
 use crate::tables::{FIRST, OWED, SILENT};
 use lines::files;
+use meaning::Verdict;
 use std::io;
 use std::rt::Files;
 use table::record::INPUT;
 
 // C1 to C12 of document 01, with its K and N; C6 as R-2 of document 02 amends it, and FIRST at K 1.
 pub fn document(rt: &impl Print) -> io::Result<()> {
-    let owed = OWED;
-    let silent = SILENT;
-    let first = FIRST;
-    small(rt, b"C1", &owed, 0, 1)?;
-    small(rt, b"C2", &silent, 0, 1)?;
+    small(rt, "C1", &OWED, 0, 1)?;
+    small(rt, "C2", &SILENT, 0, 1)?;
     let mut both = [9u8; 4160];
-    let n = joined(rt, b"OWED joined SILENT", &owed, &silent, &mut both)?;
+    let n = joined(rt, "OWED joined SILENT", &OWED, &SILENT, &mut both)?;
     print::records(rt, &both[..n])?;
-    small(rt, b"C3", &both[..n], 0, 2)?;
-    small(rt, b"C4", &both[..n], 0, 1)?;
-    parts(rt, b"C5", &owed, &silent, 0, 2)?;
-    small(rt, b"C6", &first, 0, 1)?;
-    small(rt, b"FIRST at K 1", &first, 1, 1)?;
-    small(rt, b"C7", &owed, 8, 1)?;
-    small(rt, b"C8", &owed, 7, 0)?;
-    small(rt, b"C9", &owed[..0], 0, 1)?;
+    small(rt, "C3", &both[..n], 0, 2)?;
+    small(rt, "C4", &both[..n], 0, 1)?;
+    parts(rt, "C5", &OWED, &SILENT, 0, 2)?;
+    small(rt, "C6", &FIRST, 0, 1)?;
+    small(rt, "FIRST at K 1", &FIRST, 1, 1)?;
+    small(rt, "C7", &OWED, 8, 1)?;
+    small(rt, "C8", &OWED, 7, 0)?;
+    small(rt, "C9", &OWED[..0], 0, 1)?;
     let mut exchanged = OWED;
     exchanged[46] = 1;
     exchanged[50] = 0;
-    small(rt, b"C10", &exchanged, 0, 2)?;
-    small(rt, b"C11", &owed[..48], 0, 2)?;
-    parts(rt, b"C12", &owed, &first, 0, 2)
+    small(rt, "C10", &exchanged, 0, 2)?;
+    small(rt, "C11", &OWED[..48], 0, 2)?;
+    parts(rt, "C12", &OWED, &FIRST, 0, 2)
 }
 
 // Three hard tables at K 7, at the rooms where their answers change.
 pub fn hard(rt: &(impl Print + Eprint + Files)) -> io::Result<()> {
-    large(rt, b"work at N 256", b"work.tab", 256)?;
-    large(rt, b"unreal at N 256", b"unreal.tab", 256)?;
-    large(rt, b"unreal at N 255", b"unreal.tab", 255)?;
-    large(rt, b"shrink at N 256", b"shrink.tab", 256)?;
-    large(rt, b"shrink at N 247", b"shrink.tab", 247)?;
-    large(rt, b"shrink at N 246", b"shrink.tab", 246)
+    large(rt, "work at N 256", b"work.tab", 256)?;
+    large(rt, "unreal at N 256", b"unreal.tab", 256)?;
+    large(rt, "unreal at N 255", b"unreal.tab", 255)?;
+    large(rt, "shrink at N 256", b"shrink.tab", 256)?;
+    large(rt, "shrink at N 247", b"shrink.tab", 247)?;
+    large(rt, "shrink at N 246", b"shrink.tab", 246)
 }
 
 // A call with buffers of 9s for two positions.
-pub fn small(rt: &impl Print, name: &[u8], table: &[u8], k: usize, room: usize) -> io::Result<()> {
+pub fn small(rt: &impl Print, name: &str, table: &[u8], k: usize, room: usize) -> io::Result<()> {
     let mut winners = [9u8; 16];
     let mut controller = [9u8; 64];
     let answer = game::solve(table, k, room, &mut winners, &mut controller);
@@ -58,7 +56,7 @@ pub fn small(rt: &impl Print, name: &[u8], table: &[u8], k: usize, room: usize) 
 // Two tables by parts, with buffers of 9s for four positions.
 pub fn parts(
     rt: &impl Print,
-    name: &[u8],
+    name: &str,
     first: &[u8],
     second: &[u8],
     k: usize,
@@ -74,7 +72,7 @@ pub fn parts(
 // Joins two tables into a lent buffer of 9s, and answers how many bytes that wrote.
 pub fn joined(
     rt: &impl Print,
-    name: &[u8],
+    name: &str,
     first: &[u8],
     second: &[u8],
     out: &mut [u8],
@@ -86,11 +84,10 @@ pub fn joined(
 {
     let answer = join::join(first, second, out);
     print::joined(rt, name, answer, out)?;
-    let verdict = answer.verdict;
-    if meaning::code(verdict) != 0 {
-        return Ok(0);
+    match answer.verdict {
+        Verdict::Realizable(_) => Ok(answer.place),
+        Verdict::Unrealizable | Verdict::Refused(_) => Ok(0),
     }
-    Ok(answer.place)
 }
 
 // Reads the table in a file, and answers how many bytes it has; 0 if it can't be read.
@@ -106,7 +103,7 @@ pub fn read(rt: &(impl Eprint + Files), file: &[u8], table: &mut [u8]) -> io::Re
 // A call at K 7 on the table in a file, with buffers of 9s for 256 positions.
 fn large(
     rt: &(impl Print + Eprint + Files),
-    name: &[u8],
+    name: &str,
     file: &[u8],
     room: usize,
 ) -> io::Result<()> {

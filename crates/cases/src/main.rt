@@ -14,23 +14,14 @@ mod tables;
 
 use crate::tables::OWED;
 use std::io;
-use table::Checked;
 
 // Prints a table's name, and code and place of what its checks come to; 0 and 0 for a good one.
-fn show(rt: &impl Print, name: &[u8], bytes: &[u8]) -> io::Result<()> {
-    rt.write_all(name)?;
-    let mut code = 0;
-    let mut place = 0;
-    let reading = table::checks::check(bytes);
-    let checked = reading.checked;
-    match checked {
-        Checked::Passes => {}
-        Checked::Fails(refusal, at) => {
-            code = meaning::number(refusal);
-            place = at;
-        }
-    }
-    println!(rt; " code {code} place {place}")
+fn show(rt: &impl Print, name: &str, bytes: &[u8]) -> io::Result<()> {
+    let (code, place) = match table::checks::check(bytes) {
+        Ok(_) => (0, 0),
+        Err(fault) => (fault.refusal.number(), fault.place),
+    };
+    println!(rt; "{name} code {code} place {place}")
 }
 
 // OWED with byte number `at` changed.
@@ -44,50 +35,48 @@ fn changed(at: usize, byte: u8) -> [u8; 52] {
 
 // The refusals of lengths and of single bytes.
 fn lengths_and_bytes(rt: &impl Print) -> io::Result<()> {
-    let owed = OWED;
-    show(rt, b"owed", &owed)?;
-    show(rt, b"no byte", &owed[..0])?;
-    show(rt, b"a byte short", &owed[..51])?;
+    show(rt, "owed", &OWED)?;
+    show(rt, "no byte", &OWED[..0])?;
+    show(rt, "a byte short", &OWED[..51])?;
     let long = [0u8; 4164];
-    show(rt, b"a record too many", &long)?;
-    show(rt, b"4,160 bytes of 0", &long[..4160])?;
+    show(rt, "a record too many", &long)?;
+    show(rt, "4,160 bytes of 0", &long[..4160])?;
     let kind = changed(20, 0);
-    show(rt, b"kind 0 in record 5", &kind)?;
+    show(rt, "kind 0 in record 5", &kind)?;
     let five = changed(20, 5);
-    show(rt, b"kind 5 in record 5", &five)?;
+    show(rt, "kind 5 in record 5", &five)?;
     let state = changed(5, 8);
-    show(rt, b"state 8 in record 1", &state)?;
+    show(rt, "state 8 in record 1", &state)?;
     let flags = changed(14, 2);
-    show(rt, b"start flag of a world-turn state in record 3", &flags)?;
+    show(rt, "start flag of a world-turn state in record 3", &flags)?;
     let rest = changed(3, 1);
-    show(rt, b"byte 3 of a state in record 0", &rest)?;
+    show(rt, "byte 3 of a state in record 0", &rest)?;
     let letter = changed(50, 8);
-    show(rt, b"letter 8 in record 12", &letter)
+    show(rt, "letter 8 in record 12", &letter)
 }
 
 // The refusals of order, states, start, edges and gaps.
 fn wholes(rt: &impl Print) -> io::Result<()> {
     let mut two = changed(46, 1);
     two[50] = 0;
-    show(rt, b"last two exchanged", &two)?;
+    show(rt, "last two exchanged", &two)?;
     let mut early = changed(1, 1);
     early[5] = 0;
-    show(rt, b"first two states exchanged", &early)?;
+    show(rt, "first two states exchanged", &early)?;
     early[51] = 9;
-    show(rt, b"the same, and a bad byte in record 12", &early)?;
+    show(rt, "the same, and a bad byte in record 12", &early)?;
     let twice = changed(42, 0);
-    show(rt, b"record 10 before record 9", &twice)?;
+    show(rt, "record 10 before record 9", &twice)?;
     let hole = changed(5, 2);
-    show(rt, b"states 0 and 2", &hole)?;
+    show(rt, "states 0 and 2", &hole)?;
     let none = changed(2, 0);
-    show(rt, b"no start", &none)?;
+    show(rt, "no start", &none)?;
     let edge = changed(31, 2);
-    show(rt, b"edge to an undeclared state in record 7", &edge)?;
-    let owed = OWED;
-    show(rt, b"without its last record", &owed[..48])?;
-    show(rt, b"no input", &owed[..32])?;
-    show(rt, b"no edge at all", &owed[..16])?;
-    show(rt, b"one side only", &owed[..8])
+    show(rt, "edge to an undeclared state in record 7", &edge)?;
+    show(rt, "without its last record", &OWED[..48])?;
+    show(rt, "no input", &OWED[..32])?;
+    show(rt, "no edge at all", &OWED[..16])?;
+    show(rt, "one side only", &OWED[..8])
 }
 
 fn main(rt: HostRuntime) -> io::Result<()> {

@@ -7,18 +7,20 @@ use mathlib.Core.List.{List, [], ◌∷◌, ◌++◌}
 use Prim.Native.Nat.{ℕ, ◌≤◌, ◌<◌}
 use borrow.Author.Tests.{lt-ltb, le-ltb, eq-eqb, ne_eqb}
 use Rattle.meaning.specs.declared.Answer.{Answer}
-use Rattle.meaning.specs.declared.Refusal.{Refusal}
+use Rattle.std.specs.Prelude.{Ok, Err}
+use Rattle.meaning.specs.declared.Fault.{Fault}
 use Rattle.meaning.specs.declared.Refusal.TheVariants.{Bound, Letters, Rows}
-use Rattle.meaning.specs.Table.{stated}
+use Rattle.meaning.specs.Records.{records_of}
+use Rattle.meaning.specs.Table.{table_of, stated}
 use Rattle.meaning.specs.Checks.{Check, check, judge, Passes, bound, table_checks}
-use Rattle.meaning.specs.Answers.{refused}
+use Rattle.meaning.specs.Answers.{refused, fault_of}
 use Rattle.meaning.specs.Play.{rows_in, Realizes}
 use Rattle.meaning.specs.Controller.{inputs_in, well_formed, misshapen, of_letters, foreign, check_checks, followed, verdict_on, Found}
 use Rattle.meaning.proofs.Answers.{cond-granted}
 use Rattle.meaning.proofs.Checks.{judge-passes}
-use Rattle.table.specs.declared.Checked.TheVariants.{Fails}
-use Rattle.table.specs.Checked.{checked_of}
-use Rattle.table.proofs.Judged.{table-refuses, table-passes}
+use Rattle.table.specs.Packed.{packed}
+use Rattle.table.specs.Checked.{reading_of}
+use Rattle.table.proofs.Judged.{by_reading, judge_checked, table-refuses, table-passes}
 
 module _ (bytes : List ℕ) (K : ℕ) (rows : List ℕ) where
   -- 15 and 13
@@ -47,10 +49,18 @@ module _ (bytes : List ℕ) (K : ℕ) (rows : List ℕ) where
     unfolding check_checks bound
     opened grant = rw (le-ltb 7 K patient)
 
-    pub found-table : {r : Refusal} {place : ℕ} → checked_of (table_checks 0 bytes) ≡ Fails r place → {answer : Answer}
-        → answer ≡ refused (check r place 0 true) → Found bytes K rows answer
-    found-table {r} {place} f e =
-        refusing (check r place 0 true) (λ grant. opened grant ∙ table-refuses 0 bytes of_rows refused grant f) e
+    -- of a fault of the table, which is told of no table of two
+    pub found-table : {fault : Fault} → reading_of bytes ≡ Err fault
+        → Found bytes K rows (refused (check fault.refusal fault.place fault.which true))
+    found-table {fault} f =
+        let alone = check fault.refusal fault.place 0 true in
+        let granted = Ok (packed (table_of (records_of bytes))) in
+        let told : Err fault ≡ Err (fault_of alone) =
+        sym f ∙ judge_checked 0 bytes (λ c. Err (fault_of c)) granted
+        ∙ ap (by_reading (λ (f : Fault). Err (fault_of (check f.refusal f.place 0 true))) (λ _. granted)) f in
+        let same : fault ≡ fault_of alone = cc in
+        refusing alone (λ grant. opened grant ∙ table-refuses 0 bytes of_rows refused grant f)
+        (ap (λ (f : Fault). refused (check f.refusal f.place f.which true)) same)
 
     module _ (good : Passes (table_checks 0 bytes)) where
       read : (grant : Answer) → judge (check_checks bytes K rows) refused grant ≡ judge of_rows refused grant

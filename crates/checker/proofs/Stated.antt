@@ -14,7 +14,8 @@ use Rattle.table.specs.declared.Table as D
 use Rattle.table.specs.Packed.{edge_in, table_in}
 use Rattle.table.proofs.Unpacked.{no_ninth_letter}
 use Rattle.checker.specs.Followable.{Followable}
-use Rattle.checker.specs.LedByRound.{Steps}
+use Rattle.checker.specs.Stepped.{Steps}
+use Rattle.checker.specs.declared.lead.Turn.{Turn}
 
 -- one half, of bytes of targets and marks
 stated : (bytes marks spreads : List ℕ) (word letter sources targets : ℕ) → SpreadsOf bytes spreads → counts_in word ≡ mark_counts marks
@@ -33,20 +34,17 @@ stated bytes marks spreads word letter sources targets all same few ends =
     }
 
 -- both, of a table
-pub steps-stated : (K : ℕ) (table : D.Table) (rows : List ℕ) → Followable K (table_in table) rows
-    → (out_spreads in_spreads : List ℕ) (out_marks in_marks : ℕ)
-    → SpreadsOf table.output_targets out_spreads → counts_in out_marks ≡ mark_counts table.world_marks
-    → SpreadsOf table.input_targets in_spreads → counts_in in_marks ≡ mark_counts table.controller_marks
-    → Steps (table_in table) out_spreads out_marks in_spreads in_marks
+pub steps-stated : (K : ℕ) (table : D.Table) (rows : List ℕ) → Followable K (table_in table) rows → (outputs inputs : Turn)
+    → SpreadsOf table.output_targets outputs.spreads → counts_in outputs.marks ≡ mark_counts table.world_marks
+    → SpreadsOf table.input_targets inputs.spreads → counts_in inputs.marks ≡ mark_counts table.controller_marks
+    → Steps (table_in table) outputs inputs
 unfolding table_in
-steps-stated K table rows f out_spreads in_spreads out_marks in_marks out-spreads out-marks in-spreads in-marks =
+steps-stated K table rows f outputs inputs out-spreads out-marks in-spreads in-marks =
     record {
-      outputs = λ o.
-          stated table.output_targets table.world_marks out_spreads out_marks o table.controllers table.worlds
-          out-spreads out-marks
+      on-outputs = λ o.
+          stated table.output_targets table.world_marks outputs.spreads outputs.marks o table.controllers table.worlds out-spreads out-marks
           f.bounded.small.controllers (λ p q e. let w = f.good.output-ends o p q e in (w.1, w.2));
-      inputs = λ i.
-          stated table.input_targets table.controller_marks in_spreads in_marks i table.worlds table.controllers
-          in-spreads in-marks
+      on-inputs = λ i.
+          stated table.input_targets table.controller_marks inputs.spreads inputs.marks i table.worlds table.controllers in-spreads in-marks
           f.bounded.small.worlds (λ p q e. let w = f.good.input-ends i p q e in (w.1, w.2));
     }

@@ -1,6 +1,6 @@
 -- The positions that a round leads on to, as the code steps them: half a round in eight counts, then by an input. A step reads counts
 -- alone. Assumes nothing.
-use mathlib.Core.Path.{◌≡◌, refl, ap, ◌∙◌}
+use mathlib.Core.Path.{◌≡◌, ap, ◌∙◌}
 use mathlib.Core.List.{List}
 use Prim.Native.Nat.{ℕ}
 use Rattle.meaning.specs.Table.{Table, on_output, on_input}
@@ -10,8 +10,6 @@ use Rattle.meaning.specs.Play.{row_output}
 use Rattle.meaning.proofs.Steps.{forward-length}
 use Rattle.counts.specs.Words.{counts_in}
 use Rattle.counts.proofs.Wide.{forward_wide}
-use Rattle.table.specs.declared.Table as D
-use Rattle.table.specs.Packed.{table_in}
 use Rattle.steps.specs.Bounded.{Bounded}
 use Rattle.checker.specs.LedByRound.{led_to}
 
@@ -23,7 +21,3 @@ led_to_lem K t bounded rows s F middle e i =
     let G = forward K (on_output t (row_output rows s)) F in
     ap (forward K (on_input t i)) e
     ∙ forward_wide K (on_input t i) G (rw (forward-length K (on_output t (row_output rows s)) F) bounded.small.worlds)
-
-pub inputs_read : (t : D.Table) → (table_in t).inputs ≡ t.inputs
-unfolding table_in
-inputs_read t = refl

@@ -11,7 +11,7 @@ use native.Mathlib.Nat.{le_trans, eq-zero-or-pos}
 use native.Mathlib.Decide.{dec_lt, ℕ_discrete}
 use native.Mathlib.Omega.{arith}
 use lib.Dec.{leb}
-use lib.ListN.{length, set, replicate, length-set, length-replicate, get_or-eq_default}
+use lib.ListN.{length, set, replicate, get_or-eq_default}
 use lib.Seq.{get_or-set_same, get_or-set_other}
 use borrow.Author.Tests.{leb-false}
 use Rattle.meaning.specs.Lists.{place, smallest}
@@ -32,7 +32,7 @@ use Rattle.counts.specs.Words.{counts_in}
 use Rattle.counts.proofs.Wide.{wide_count}
 use Rattle.checker.specs.Followable.{Followable}
 use Rattle.checker.specs.Raised.{counts_at, flag_at, NoneBefore}
-use Rattle.checker.specs.LedByRound.{ForAll, led_to, AllLed, Overruns}
+use Rattle.checker.specs.LedByRound.{led_to, AllLed, Overruns}
 use Rattle.checker.proofs.Counts.{counts-here, counts-elsewhere, counts-nowhere}
 use Rattle.checker.proofs.Room.{each-refuted}
 
@@ -44,9 +44,8 @@ pub record Tracks (K : ℕ) (t : Table) (rows : List Row) (most : List ℕ) (ris
   pub closed : (s i : ℕ) → has_rows rows s ≡ true → i < t.inputs → (flag_at risen s ≡ true)
       ⊎ ((q : ℕ) → count (led_to K t rows s (counts_at most s) i) q ≤ count (counts_at most (row_next rows s i)) q)
 
--- what holds before each turn: counts and flags for all states, which track the runs, and no flag before the state to look from
+-- what holds before each turn: counts and flags that track the runs, and no flag before the state to look from
 pub record Turning (K : ℕ) (t : Table) (rows : List Row) (from : ℕ) (most : List ℕ) (risen : List Bool) : Type 0 where
-  pub arrays : ForAll most risen
   pub tracks : Tracks K t rows most risen
   pub before : NoneBefore from risen
 
@@ -55,13 +54,13 @@ pub fitting : {K : ℕ} {t : Table} {bytes : List ℕ} → Followable K t bytes 
 fitting {bytes = bytes} f = record { formed = formed bytes f.formed; outputs = f.outputs; inputs = f.inputs }
 
 -- the flags: the first that is up, and none
-pub flag_up : (risen : List Bool) (s : ℕ) → s ≡ place (λ b. b) risen → length risen ≡ 256 → s < 256 → flag_at risen s ≡ true
-flag_up risen s e long low = rw e (place-holds (λ b. b) risen false (omega arith))
+pub flag_up : (risen : List Bool) (s : ℕ) → place (λ b. b) risen ≡ s → s < length risen → flag_at risen s ≡ true
+flag_up risen s e low = rw (← e) (place-holds (λ b. b) risen false (omega arith))
 
-pub no_flag : (risen : List Bool) (s : ℕ) → s ≡ place (λ b. b) risen → length risen ≡ 256 → 256 ≤ s → (r : ℕ) → flag_at risen r ≡ false
-no_flag risen s e long high r = go (dec_lt r 256)
+pub no_flag : (risen : List Bool) → place (λ b. b) risen ≡ length risen → (r : ℕ) → flag_at risen r ≡ false
+no_flag risen none r = go (dec_lt r (length risen))
   where
-    go : Dec (r < 256) → flag_at risen r ≡ false
+    go : Dec (r < length risen) → flag_at risen r ≡ false
     go (yes l) = place-before (λ b. b) risen false r (omega arith)
     go (no l) = get_or-eq_default risen false (omega arith)
 
@@ -86,13 +85,6 @@ module _ (K : ℕ) (t : Table) (rows : List Row) where
 
     abbrev risen₀ : List Bool
     risen₀ = set (replicate 256 false) first true
-
-    pub arrays-start : ForAll most₀ risen₀
-    arrays-start =
-        record {
-          counts = length-set (replicate 256 0) first m ∙ length-replicate {A = ℕ} 256 0;
-          flags = length-set (replicate 256 false) first true ∙ length-replicate 256 false;
-        }
 
     started : (q : ℕ) → count (counts_at most₀ first) q ≡ count (start_position K t) q
     started q =
@@ -185,9 +177,9 @@ module _ (K : ℕ) (t : Table) (rows : List Row) where
               (tracks.closed r i h l)
 
       -- the first flagged state led on: the next flag is not before the states it leads on to, nor before the one after it
-      pub none_before : length risen' ≡ 256 → s < 256 → s ≡ place (λ b. b) risen
+      pub none_before : length risen' ≡ length risen → place (λ b. b) risen ≡ s
           → NoneBefore (smallest (s + 1) t.inputs (row_next rows s)) risen'
-      none_before long within is-first =
+      none_before long is-first =
           record {
             within = omega (arith, smallest-top (s + 1) t.inputs (row_next rows s));
             none = λ r l. not_flagged r (flag_at risen' r) refl l;

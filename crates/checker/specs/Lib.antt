@@ -3,3 +3,5 @@ pub mod Begun
 pub mod Followable
 pub mod Raised
 pub mod LedByRound
+pub mod Played
+pub mod Stepped

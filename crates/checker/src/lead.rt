@@ -1,66 +1,107 @@
-// A controller state's counts led a round on, input by input.
-ghost use Rattle.std.specs.Prelude.{◌≡◌, ◌≤◌, ◌<◌, length};
+// A controller followed on a table, in words: its states' counts led a round on, input by input.
+ghost use Rattle.std.specs.Prelude.{◌≡◌, true, ◌≤◌};
 ghost use Rattle.meaning.specs.Play.{rows_in};
-ghost use Rattle.meaning.specs.Controller.{inputs_in};
-ghost use Rattle.rows.specs.Placed.{Ready};
-ghost use Rattle.checker.specs.LedByRound.{ForAll, LedByInput, LedByRound};
+ghost use Rattle.meaning.specs.Controller.{has_rows};
+ghost use Rattle.counts.specs.Words.{counts_in, mark_counts, SpreadsOf, SteppedForward};
+ghost use Rattle.table.specs.Packed.{table_in};
+ghost use Rattle.checker.specs.Followable.{Followable};
+ghost use Rattle.checker.specs.Played.{Played};
+ghost use Rattle.checker.specs.Stepped.{Steps};
+ghost use Rattle.checker.specs.LedByRound.{LedByInput, LedByRound};
 
-use crate::most;
+use crate::most::Counts;
 use counts::word;
+use rows::Controller;
+use std::marker::Model;
+use table::Table;
 
-// Leads a middle position on by one input, to the counts of the next state; false if that is not safe.
-fn by_input(
-    spreads: &[u64; 64],
+// One side's half of a round in words: the spreads of its targets for each letter, and its marks.
+#[derive(Drop)]
+pub struct Turn {
+    spreads: [u64; 64],
     marks: u64,
-    k: usize,
-    middle: u64,
-    input: usize,
-    next: usize,
-    most: &mut [u64],
-    risen: &mut [bool],
-) -> bool
-    requires { (k ≤ 7) × (next < length most.old) × (next < length risen.old) }
-    ensures { LedByInput k spreads.now marks middle input next
-        most.old risen.old most.new risen.new result }
-{
-    let after = word::forward(middle, spreads, input, marks, k);
-    if !word::safe(after, k) {
-        return false;
-    }
-    most::raise(most, risen, next, after);
-    true
 }
 
-// Leads the counts of state s a round on, to those of each next state; false if a run overruns k.
-// The spreads and marks are those of the outputs, and those of so many inputs.
-pub fn by_round(
+impl Turn {
+    // The half that a table's targets and marks state.
+    fn new(targets: [u8; 64], marks: [u8; 8]) -> Turn
+        ensures spread { SpreadsOf targets result.spreads }
+        ensures marked { counts_in result.marks ≡ mark_counts marks }
+    {
+        Turn {
+            spreads: word::spreads(targets),
+            marks: word::marks(marks),
+        }
+    }
+
+    // The counts after the half on a letter.
+    fn forward(&self, word: u64, letter: usize, k: usize) -> u64
+        requires { k ≤ 7 }
+        ensures { SteppedForward self.now.spreads letter self.now.marks k word result }
+    {
+        word::forward(word, &self.spreads, letter, self.marks, k)
+    }
+}
+
+// Rows that can be followed on a table for the patience count k, and the words of the table's halves of a round.
+#[derive(Drop)]
+pub struct Play<'a> {
+    table: Table,
     k: usize,
-    rows: &[u8],
-    places: &[u16; 256],
-    out_spreads: &[u64; 64],
-    out_marks: u64,
-    in_spreads: &[u64; 64],
-    in_marks: u64,
-    inputs: usize,
-    s: usize,
-    most: &mut [u64],
-    risen: &mut [bool],
-) -> bool
-    requires bounds { (k ≤ 7) × Ready rows.now places.now s × (inputs ≡ inputs_in (rows_in rows.now)) }
-    requires arrays { ForAll most.old risen.old × (s < 256) }
-    ensures { LedByRound k rows.now out_spreads.now out_marks in_spreads.now in_marks s
-        most.old risen.old most.new risen.new result }
-{
-    let state = s as u8;
-    let output = rows::output(rows, places, state) as usize;
-    let middle = word::forward(most[s], out_spreads, output, out_marks, k);
-    let mut i = 0;
-    while i < inputs {
-        let next = rows::next(rows, places, state, i) as usize;
-        if !by_input(in_spreads, in_marks, k, middle, i, next, most, risen) {
+    pub controller: Controller<'a>,
+    outputs: Turn,
+    inputs: Turn,
+}
+
+// It is the table, the patience count and the rows.
+impl<'a> Model for Play<'a> {
+    ghost Value = { Played };
+
+    ghost view = { λ p. record { table = p.table; k = p.k; rows = p.controller } };
+
+    ghost invariant = { λ p. Followable p.k (table_in p.table) p.controller × Steps (table_in p.table) p.outputs p.inputs };
+}
+
+impl<'a> Play<'a> {
+    // The play of rows on a table.
+    pub fn new(table: Table, k: usize, rows: &'a [u8]) -> Play<'a>
+        requires { Followable k (table_in table) rows.now }
+        ensures { result ≡ record { table = table; k = k; rows = rows.now } }
+    {
+        Play {
+            table,
+            k,
+            controller: Controller::new(rows),
+            outputs: Turn::new(table.output_targets, table.world_marks),
+            inputs: Turn::new(table.input_targets, table.controller_marks),
+        }
+    }
+
+    // Leads a middle position on by one input, to the counts of the next state; false if that is not safe.
+    fn by_input(&self, middle: u64, input: usize, next: u8, counts: &mut Counts) -> bool
+        ensures { LedByInput self.now.k (table_in self.now.table) middle input next counts.old counts.new result }
+    {
+        let after = self.inputs.forward(middle, input, self.k);
+        if !word::safe(after, self.k) {
             return false;
         }
-        i += 1;
+        counts.raise(next, after);
+        true
     }
-    true
+
+    // Leads the counts of state s a round on, to those of each next state, and takes its flag down; false if a run
+    // overruns k.
+    pub fn by_round(&self, s: u8, counts: &mut Counts) -> bool
+        requires { has_rows (rows_in self.now.rows) s ≡ true }
+        ensures { LedByRound self.now.k (table_in self.now.table) (rows_in self.now.rows) s counts.old counts.new result }
+    {
+        let output = self.controller.output(s) as usize;
+        let middle = self.outputs.forward(counts.take(s), output, self.k);
+        for i in 0..self.controller.inputs() {
+            if !self.by_input(middle, i, self.controller.next(s, i), counts) {
+                return false;
+            }
+        }
+        true
+    }
 }

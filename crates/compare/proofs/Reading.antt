@@ -8,13 +8,13 @@ use Prim.Native.Nat.{ℕ, ◌+◌, ◌-◌, ◌*◌, ◌≤◌, ◌<◌}
 use native.Mathlib.Nat.{not-suc-le-zero}
 use native.Mathlib.Numerals.{add-one}
 use native.Mathlib.Omega.{arith}
-use borrow.Author.Tests.{le-leb, leb-true, eq-eqb, eqb-true}
+use borrow.Author.Tests.{leb-true, eq-eqb, eqb-true}
 use lib.Dec.{eqb, leb}
 use lib.ListN.{length, get_or, length-map}
 use Rattle.meaning.specs.Lists.{each}
 use Rattle.meaning.specs.Counting.{count}
 use Rattle.meaning.proofs.Lists.{map_at}
-use Rattle.meaning.proofs.Tests.{both, both_left, both_right, refuted, below_last, each_at, each_of}
+use Rattle.meaning.proofs.Tests.{both, both_left, both_right, refuted, clash, below_last, each_at, each_of}
 use Rattle.counts.specs.Words.{counts_in}
 use Rattle.counts.proofs.Packing.{Packed, packed_none, packed-next, packed-whole}
 use Rattle.compare.specs.Shown.{is_digit, eight_digits, shown}
@@ -31,14 +31,10 @@ shown-at : (word : List ℕ) (q : ℕ) → q < length word → count (shown word
 unfolding shown
 shown-at word q l = map_at (λ b. b - 48) word q 0 0 l
 
--- a digit is a byte from 48 to 57
-digit-of : (b : ℕ) → 48 ≤ b → b ≤ 57 → is_digit b ≡ true
+-- a digit is a byte up to 57
+digit_most : (b : ℕ) → is_digit b ≡ true → b ≤ 57
 unfolding is_digit
-digit-of b low high = both (leb 48 b) (leb b 57) (le-leb 48 b low) (le-leb b 57 high)
-
-digit_range : (b : ℕ) → is_digit b ≡ true → (48 ≤ b) × (b ≤ 57)
-unfolding is_digit
-digit_range b t = (leb-true 48 b (both_left (leb 48 b) (leb b 57) t), leb-true b 57 (both_right (leb 48 b) (leb b 57) t))
+digit_most b t = leb-true b 57 (both_right (leb 48 b) (leb b 57) t)
 
 -- the first q bytes are digits, and their numbers are packed
 pub record Taken (word : List ℕ) (q position : ℕ) : Type 0 where
@@ -49,11 +45,12 @@ module _ (word : List ℕ) where
   pub taken_none : Taken word 0 0
   taken_none = record { digits = λ i h. absurd (not-suc-le-zero h); packed = packed_none (shown word) }
 
-  pub taken_next : (q position : ℕ) → Taken word q position → length word ≡ 8 → q < 8 → 48 ≤ byte word q → byte word q ≤ 57
+  pub taken_next : (q position : ℕ) → Taken word q position → length word ≡ 8 → q < 8 → is_digit (byte word q) ≡ true
       → Taken word (q + 1) (position * 256 + (byte word q - 48))
-  taken_next q position taken long l low high =
+  taken_next q position taken long l digit =
+      let most = digit_most (byte word q) digit in
       record {
-        digits = rw (add-one q) (below_last q taken.digits (digit-of (byte word q) low high));
+        digits = rw (add-one q) (below_last q taken.digits digit);
         packed =
             packed-next (shown word) q position taken.packed (byte word q - 48) (shown-length word ∙ long) l (omega arith)
             (shown-at word q (rw long l));
@@ -76,9 +73,11 @@ module _ (word : List ℕ) where
       refuted (eqb (length word) 8 && each 8 (λ i. is_digit (byte word i)))
       (λ t. other (eqb-true (length word) 8 (both_left (eqb (length word) 8) (each 8 (λ i. is_digit (byte word i))) t)))
 
-  pub other_byte : (q : ℕ) → q < 8 → ((48 ≤ byte word q) × (byte word q ≤ 57) → ⊥) → eight_digits word ≡ false
+  pub other_byte : (q : ℕ) → length word ≡ 8 → q < length word → is_digit (byte word q) ≡ false → eight_digits word ≡ false
   unfolding eight_digits
-  other_byte q l other =
+  other_byte q long l other =
       refuted (eqb (length word) 8 && each 8 (λ i. is_digit (byte word i)))
-      (λ t. other (digit_range (byte word q)
-      (each_at 8 (λ i. is_digit (byte word i)) (both_right (eqb (length word) 8) (each 8 (λ i. is_digit (byte word i))) t) q l)))
+      (λ t. clash (is_digit (byte word q))
+      (each_at 8 (λ i. is_digit (byte word i)) (both_right (eqb (length word) 8) (each 8 (λ i. is_digit (byte word i))) t) q
+      (rw long at l))
+      other)

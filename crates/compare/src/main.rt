@@ -8,31 +8,24 @@ ghost use Rattle.masks.specs.Mask.{mask};
 ghost use Rattle.counts.specs.Words.{counts_in};
 ghost use Rattle.compare.specs.Shown.{ReadAs, differs};
 
-use meaning::Comparison;
 use std::io;
 use std::rt::Env;
 
-// What a word says as a position: eight counts in a word of 64 bits, as in the crate counts.
-#[derive(Drop)]
-enum Word {
-    Position(u64),
-    Other,
-}
-
 fn main(rt: HostRuntime) -> io::Result<()> {
-    let Word::Position(a) = argument(&rt, 1) else {
+    let Some(a) = argument(&rt, 1) else {
         return refuse(&rt, "The first");
     };
-    let Word::Position(b) = argument(&rt, 2) else {
+    let Some(b) = argument(&rt, 2) else {
         return refuse(&rt, "The second");
     };
-    print_comparison(&rt, counts::word::compare(a, b))?;
+    rt.print(lines::word(counts::word::compare(a, b)))?;
     print_states(&rt, differing(a, b))?;
-    lines::end(&rt)
+    println!(rt)
 }
 
-// One word of the call. A word with more than eight bytes is none of eight digits, and comes as none at all.
-fn argument(rt: &impl Env, i: usize) -> Word {
+// The position that one word of the call shows: eight counts in a word of 64 bits, as in the crate counts. A word with more than eight
+// bytes is none of eight digits, and comes as none at all.
+fn argument(rt: &impl Env, i: usize) -> Option<u64> {
     let mut word = [0u8; 8];
     let length = rt.arg(i, &mut word).unwrap_or(0);
     read(&word[..length])
@@ -45,26 +38,20 @@ fn refuse(rt: &impl Eprint, which: &str) -> io::Result<()> {
 }
 
 // The position that a word of eight digits shows; a word of anything else shows none.
-fn read(word: &[u8]) -> Word
+fn read(word: &[u8]) -> Option<u64>
     ensures { ReadAs word.now result }
 {
     if word.len() != 8 {
-        return Word::Other;
+        return None;
     }
     let mut position = 0u64;
-    let mut q = 0;
-    while q < 8 {
-        let byte = word[q];
-        if byte < b'0' {
-            return Word::Other;
-        }
-        if b'9' < byte {
-            return Word::Other;
+    for byte in word {
+        if !byte.is_ascii_digit() {
+            return None;
         }
         position = position * 256 + (byte - b'0') as u64;
-        q += 1;
     }
-    Word::Position(position)
+    Some(position)
 }
 
 // The count of state q, one higher: the digit that shows it.
@@ -80,33 +67,17 @@ fn differing(a: u64, b: u64) -> u8
     ensures { result ≡ mask 8 (differs (counts_in a) (counts_in b)) }
 {
     let mut states = 0u8;
-    let mut q = 0;
-    while q < 8 {
+    for q in 0..8 {
         if digit(a, q) != digit(b, q) {
             states = masks::with_state(states, q);
         }
-        q += 1;
     }
     states
 }
 
-fn print_comparison(rt: &impl Print, comparison: Comparison) -> io::Result<()> {
-    let word = match comparison {
-        Comparison::Same => "same",
-        Comparison::Below => "below",
-        Comparison::Above => "above",
-        Comparison::Neither => "neither",
-    };
-    print!(rt; "{word}")
-}
-
 fn print_states(rt: &impl Print, states: u8) -> io::Result<()> {
-    let mut q = 0;
-    while q < 8 {
-        if masks::has(states, q) {
-            lines::field(rt, b" ", q)?;
-        }
-        q += 1;
+    for q in (0..8).filter(|q| masks::has(states, *q)) {
+        print!(rt; " {q}")?;
     }
     Ok(())
 }

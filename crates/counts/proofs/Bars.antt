@@ -5,8 +5,6 @@ use mathlib.Core.Path.{◌≡◌, refl, sym, ap, ◌∙◌}
 use mathlib.Core.Bool.{Bool, true, false, cond}
 use mathlib.Core.List.{List, [], ◌∷◌}
 use Prim.Native.Nat.{ℕ, zero, suc, ◌+◌, ◌*◌, ◌-◌, ◌/◌, ◌%◌, ◌≤◌, ◌<◌, min}
-use native.Mathlib.Nat.{le_refl}
-use native.Mathlib.Numerals.{add-one}
 use native.Mathlib.Omega.{arith}
 use borrow.Author.Tests.{lt-ltb, le-ltb}
 use lib.Bits.{bit_and, bit_or, and_mask, and_comm, or_add_and, and_shr, or_shr, and_mod, or_mod, or_zero_l}
@@ -23,8 +21,8 @@ use Rattle.counts.specs.declared.position.Half.{Half}
 use Rattle.counts.proofs.Edges.{bit_beyond, within, smallest-next, smallest-within}
 use Rattle.counts.specs.Words.{counts_before, counts_in, bar_counts}
 use Rattle.counts.proofs.Lesser.{lesser_at}
-use Rattle.counts.proofs.Bytes.{counts_in-length, counts_in-low, bytes}
-use Rattle.counts.proofs.Packing.{Packed, packed_none, packed-next, packed-whole}
+use Rattle.counts.proofs.Bytes.{counts_in-length, counts_in-low}
+use Rattle.counts.proofs.Made.{counts-of_bytes}
 
 -- what works on the bits of two numbers apart works on their counts
 module _ (op : ℕ → ℕ → ℕ) (high : (a b : ℕ) → op a b / 256 ≡ op (a / 256) (b / 256))
@@ -49,42 +47,22 @@ unfolding counts_in
 shared_counts a b p = bits_before bit_and (λ a b. and_shr a b 8) (λ a b. and_mod a b 7) 8 a b [] [] [] (λ _. refl) p
 
 -- the bar of target q: its counts, by the code's test of each source's bit
-abbrev barred : List ℕ → ℕ → ℕ → ℕ
+abbrev pub barred : List ℕ → ℕ → ℕ → ℕ
 barred masks q p = cond (bit (get_or masks p 0) q) 0 127
 
 module _ (masks : List ℕ) (q : ℕ) where
-  pub bar_length : length (bar_counts masks q) ≡ 8
-  unfolding bar_counts
-  bar_length = tab-length 8 (barred masks q)
-
   bar_at : (p : ℕ) → p < 8 → count (bar_counts masks q) p ≡ barred masks q p
   unfolding bar_counts
   bar_at p l = tab-at 8 (barred masks q) p 0 l
-
-  pub bar_set : (p : ℕ) → p < 8 → bit (get_or masks p 0) q ≡ true → count (bar_counts masks q) p ≡ 0
-  bar_set p l e = bar_at p l ∙ rw e
-
-  pub bar_unset : (p : ℕ) → p < 8 → bit (get_or masks p 0) q ≡ false → count (bar_counts masks q) p ≡ 127
-  bar_unset p l e = bar_at p l ∙ rw e
 
 -- one in each byte, and so a count in every byte
 abbrev pub ones : ℕ
 ones = 72340172838076673
 
-packed_all : (e n : ℕ) → e ≤ 127 → n ≤ 8 → Packed (tab 8 (λ _. e)) n (bytes n e)
-packed_all e zero h l = packed_none (tab 8 (λ _. e))
-packed_all e (suc n) h l =
-    let F = tab 8 (λ _. e) in
-    let here : count F n ≡ e = tab-at 8 (λ _. e) n 0 (omega arith) in
-    rw (add-one n) at (packed-next F n (bytes n e) (packed_all e n h (omega arith)) e refl (omega arith) h here)
-
 pub all-counts : (e p : ℕ) → e ≤ 127 → p < 8 → count (counts_in (e * ones)) p ≡ e
 all-counts e p h l =
-    let spread : e * ones ≡ bytes 8 e = omega arith in
-    let F = tab 8 (λ _. e) in
-    let whole : counts_in (bytes 8 e) ≡ F = packed-whole F 8 (bytes 8 e) (packed_all e 8 h (le_refl 8)) refl (le_refl 8) in
-    ap (λ (w : ℕ). count (counts_in w) p) spread ∙ ap (λ (G : Position). count G p) whole
-    ∙ tab-at 8 (λ _. e) p 0 l
+    ap (λ (w : ℕ). count (counts_in w) p) (omega arith) ∙ ap (λ (F : Position). count F p) (counts-of_bytes (λ _. e) (λ _. omega arith))
+    ∙ tab-at 8 (λ _. e % 128) p 0 l ∙ omega arith
 
 -- the highest count takes in every other, and no count none
 highest_or : (e : ℕ) → e ≤ 127 → bit_or 127 e ≡ 127

@@ -108,12 +108,12 @@ difference_flags (suc n) a b =
     ∙ and_block 8 high (bytes n 128) low 128 (omega arith) (omega arith)
     ∙ ap₂ (λ x y. x * 256 + y) (difference_flags n (a / 256) (b / 256)) (top_left (a % 128) (b % 128) (omega arith) (omega arith))
 
-pub flags-le : (n a b : ℕ) → flags n a b ≤ bytes n 128
+pub flags_low : (n a b : ℕ) → flags n a b ≤ bytes n 128
 unfolding flags
-flags-le zero a b = zero-le
-flags-le (suc n) a b =
+flags_low zero a b = zero-le
+flags_low (suc n) a b =
     cond_cases (leb (a % 128) (b % 128)) 128 0 (λ z. flags n (a / 256) (b / 256) * 256 + z ≤ bytes (suc n) 128)
-    (λ _. omega (arith, flags-le n (a / 256) (b / 256))) (λ _. omega (arith, flags-le n (a / 256) (b / 256)))
+    (λ _. omega (arith, flags_low n (a / 256) (b / 256))) (λ _. omega (arith, flags_low n (a / 256) (b / 256)))
 
 -- below: one count and the rest
 below-first : (x y : ℕ) (F G : Position) → below (x ∷ F) (y ∷ G) ≡ (leb x y && below F G)

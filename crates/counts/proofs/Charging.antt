@@ -16,7 +16,7 @@ use Rattle.meaning.proofs.Steps.{below_at, below_of, safe_at, safe-of}
 use Rattle.counts.specs.Halves.{lesser_counts}
 use Rattle.counts.specs.Words.{counts_before, counts_in, flags, Charged}
 use Rattle.counts.proofs.Lesser.{lesser_at}
-use Rattle.counts.proofs.Bytes.{counts_in-length, last-count, bytes, and_byte, and_count, and_counts, flags-le, flags-whole}
+use Rattle.counts.proofs.Bytes.{counts_in-length, last-count, bytes, and_byte, and_count, and_counts, flags_low, flags-whole}
 use Rattle.counts.proofs.Bars.{ones, all-counts}
 
 -- the highest count in each of the last n bytes with a count
@@ -44,7 +44,7 @@ with_mark c mark = c + cond (leb 1 c) mark 0
 -- it fits
 pub paid-fits : (low marks : ℕ) → paid 8 low marks < 2 ^ 64
 paid-fits low marks =
-    omega (arith, and_le_r low (bytes 8 127), and_le_r marks (present 8 low), flags-le 8 (bytes 8 1) low)
+    omega (arith, and_le_r low (bytes 8 127), and_le_r marks (present 8 low), flags_low 8 (bytes 8 1) low)
 
 -- byte by byte
 let_through : (t : Bool) (m : ℕ) → bit_and (m % 256) (cond t 127 0) ≡ cond t (m % 128) 0

@@ -6,6 +6,7 @@ pub mod Wide
 pub mod Lesser
 pub mod Bytes
 pub mod Compared
+pub mod Made
 pub mod Packing
 pub mod Bars
 pub mod Charging

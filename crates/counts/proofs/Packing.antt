@@ -9,9 +9,7 @@ use native.Mathlib.Omega.{arith}
 use lib.ListN.{length, drop, drop_of_length-le}
 use lib.Seq.{drop-cons}
 use Rattle.meaning.specs.Counting.{Position, count}
-use Rattle.meaning.specs.Written.{position_bytes}
 use Rattle.counts.specs.Words.{counts_before, counts_in}
-use Rattle.counts.proofs.Wide.{wide_length, wide_at}
 use Rattle.counts.proofs.Bytes.{last-count}
 
 -- a word that the first q counts of a position are packed in
@@ -50,8 +48,3 @@ module _ (F : Position) (q word : ℕ) (packed : Packed F q word) where
       let whole : q ≡ 8 = omega (arith, packed.few) in
       let none : drop 8 F ≡ [] = drop_of_length-le F {i = 8} (omega arith) in
       rw (whole, none) at packed.counts
-
--- a position widened to eight counts, one state more
-pub packed_wide : (F : Position) (q word : ℕ) → Packed (position_bytes F) q word → (c : ℕ) → q < 8 → c ≤ 127 → count F q ≡ c
-    → Packed (position_bytes F) (q + 1) (word * 256 + c)
-packed_wide F q word packed c l h e = packed-next (position_bytes F) q word packed c (wide_length F) l h (wide_at F q l ∙ e)

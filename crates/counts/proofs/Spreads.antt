@@ -1,6 +1,7 @@
--- The step forward in words. A spread that shares its bits with a word of one count in every byte leaves that count to the source's targets
--- alone; so the greatest of these over the sources is the largest count that reaches each target (`Arrived`). Charging it once is the same
--- as charging each before, since what is charged for a count only rises with it; and where words state a half of a round, that is its step
+-- The step forward in words. A mask is spread over its targets by its bits all at once, which is tried at each of the 256 masks
+-- (`spread_words`). A spread that shares its bits with a word of one count in every byte leaves that count to the source's targets alone;
+-- so the greatest of these over the sources is the largest count that reaches each target (`Arrived`). Charging it once is the same as
+-- charging each before, since what is charged for a count only rises with it; and where words state a half of a round, that is its step
 -- (`stepped_forward`). Count by count. Assumes nothing.
 use mathlib.Core.Path.{◌≡◌, refl, sym, ap, ap₂, ◌∙◌}
 use mathlib.Core.Bool.{Bool, true, false, cond}
@@ -9,16 +10,17 @@ use Prim.Native.Nat.{ℕ, zero, suc, ◌+◌, ◌-◌, ◌*◌, ◌/◌, ◌%◌
 use native.Mathlib.Nat.{div-one}
 use native.Mathlib.Decide.{dec_lt, dec_le}
 use native.Mathlib.Omega.{arith}
-use borrow.Author.Tests.{lt-ltb, le-ltb}
+use borrow.Author.Tests.{lt-ltb, le-ltb, eqb-true}
+use lib.Dec.{eqb}
 use lib.Bits.{bit_and, and_comm, and_mask, and_zero_l}
 use lib.ListN.{length, get_or}
 use lib.Pow.{shr-shr}
-use Rattle.meaning.specs.Lists.{largest}
+use Rattle.meaning.specs.Lists.{each, largest}
 use Rattle.meaning.specs.Table.{Half, bit}
 use Rattle.meaning.specs.Counting.{Position, count, plus, forward}
 use Rattle.meaning.specs.Written.{position_bytes}
-use Rattle.meaning.proofs.Tests.{refuted, largest-same, largest-zero}
-use Rattle.meaning.proofs.Lists.{tab-length, tab-at}
+use Rattle.meaning.proofs.Tests.{refuted, each_at, largest-same, largest-zero}
+use Rattle.meaning.proofs.Lists.{tab-at, tab-same}
 use Rattle.meaning.proofs.Steps.{count-nowhere, count_beyond, same-counts, plus_mono, plus_none, forward-length, forward-at}
 use Rattle.counts.specs.Halves.{greater_counts}
 use Rattle.counts.specs.Words.{counts_before, counts_in, spread_counts, mark_counts, Charged, StatedIn, SteppedForward}
@@ -26,6 +28,7 @@ use Rattle.counts.proofs.Edges.{within, largest-next, largest-within}
 use Rattle.counts.proofs.Wide.{wide_length, wide_at}
 use Rattle.counts.proofs.Lesser.{greater-at}
 use Rattle.counts.proofs.Bytes.{counts_in-length, counts_in-low}
+use Rattle.counts.proofs.Made.{number, counts-of_number, chosen_low}
 use Rattle.counts.proofs.Bars.{ones, all-counts, shared_counts}
 
 -- a spread's counts, by the code's test of each target's bit
@@ -33,20 +36,29 @@ abbrev spread_to : ℕ → ℕ → ℕ
 spread_to mask q = cond (bit mask q) 127 0
 
 module _ (mask : ℕ) where
-  pub spread-length : length (spread_counts mask) ≡ 8
-  unfolding spread_counts
-  spread-length = tab-length 8 (spread_to mask)
-
   pub spread_at : (q : ℕ) → q < 8 → count (spread_counts mask) q ≡ spread_to mask q
   unfolding spread_counts
   spread_at q l = tab-at 8 (spread_to mask) q 0 l
 
+-- each byte keeps its own state's bit of the mask, and is raised past its counts if that is set
+abbrev pub raised : ℕ → ℕ
+raised mask = bit_and (bit_and (mask * ones) 72624976668147840 + 9187201950435737471) 9259542123273814144 / 128 * 127
+
+-- tried at each mask that eight bits have
+tried : each 256 (λ mask. eqb (raised mask) (number 8 (spread_to mask))) ≡ true
+unfolding bit
+tried = refl
+
+pub spread_words : (mask : ℕ) → mask < 256 → counts_in (raised mask) ≡ spread_counts mask
+unfolding counts_in spread_counts
+spread_words mask l =
+    let low : (q : ℕ) → spread_to mask q < 128 = λ q. chosen_low (bit mask q) 127 0 (omega arith) (omega arith) in
+    ap (λ word. counts_before 8 word []) (eqb-true _ _ (each_at 256 (λ mask. eqb (raised mask) (number 8 (spread_to mask))) tried mask l))
+    ∙ counts-of_number 8 (spread_to mask) [] (λ q. omega (arith, low q))
+    ∙ tab-same 8 (λ q. spread_to mask q % 128) (spread_to mask) (λ q _. omega (arith, low q))
+
 -- and the counts of a word of marks
 module _ (marks : List ℕ) where
-  pub marks-length : length (mark_counts marks) ≡ 8
-  unfolding mark_counts
-  marks-length = tab-length 8 (λ q. min (get_or marks q 0) 100)
-
   pub marks-at : (q : ℕ) → q < 8 → count (mark_counts marks) q ≡ min (get_or marks q 0) 100
   unfolding mark_counts
   marks-at q l = tab-at 8 (λ q. min (get_or marks q 0) 100) q 0 l

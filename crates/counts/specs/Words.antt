@@ -14,6 +14,10 @@ counts_before (suc n) w rest = counts_before n (w / 256) (w % 128 ∷ rest)
 unfoldable pub counts_in : ℕ → Position
 counts_in w = counts_before 8 w []
 
+-- the counts of a word are the bytes that were given for its eight places, each without its top bit
+abbrev pub CountsGiven : (ℕ → ℕ → Type 0) → ℕ → Type 0
+CountsGiven given word = (q : ℕ) → q < 8 → (byte : ℕ) × given q byte × (count (counts_in word) q ≡ byte % 128)
+
 -- in the top bit of each of the last n bytes whether the one's count is at most the other's
 unfoldable pub flags : ℕ → ℕ → ℕ → ℕ
 flags zero a b = 0

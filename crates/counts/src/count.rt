@@ -1,16 +1,10 @@
 // One count: a small signed integer, -1 where no run is. Any negative number is taken for -1, and none but -1 is given for it.
 ghost use Rattle.std.specs.Prelude.{◌≡◌, ◌≤◌, min};
 ghost use Rattle.meaning.specs.Counting.{one_higher};
-ghost use Rattle.meaning.specs.Signed.{max_z, plus_signed, less_signed, one_lower};
-
-// The greater of two counts.
-pub fn greater(a: i8, b: i8) -> i8
-    ensures { result ≡ max_z a b }
-{
-    if a < b { b } else { a }
-}
+ghost use Rattle.meaning.specs.Signed.{plus_signed, less_signed, one_lower};
 
 // A count after a state of that mark is entered: -1 stays -1, and an overrun stops at K + 1.
+#[tactic(auto, unfolding(meaning::specs::Signed::plus_signed, meaning::specs::Signed::min_z))]
 pub fn plus(c: i8, mark: u8, k: usize) -> i8
     requires { k ≤ 7 }
     ensures { result ≡ plus_signed k mark c }
@@ -18,11 +12,7 @@ pub fn plus(c: i8, mark: u8, k: usize) -> i8
     if c < 0 {
         return -1;
     }
-    let sum = (c as usize) + (mark as usize);
-    if k < sum {
-        return (k + 1) as i8;
-    }
-    sum as i8
+    (c as usize + mark as usize).min(k + 1) as i8
 }
 
 // A count less a mark, floored at -1.
@@ -37,18 +27,13 @@ pub fn less(c: i8, mark: u8) -> i8
 pub fn to_byte(c: i8) -> u8
     ensures { result ≡ one_higher c }
 {
-    if c < 0 {
-        return 0;
-    }
-    c as u8 + 1
+    if c < 0 { 0 } else { c as u8 + 1 }
 }
 
 // The count of a winners' byte: one lower. No count needs a byte over 128.
+#[tactic(auto, unfolding(meaning::specs::Signed::one_lower))]
 pub fn from_byte(b: u8) -> i8
     ensures { result ≡ one_lower (min b 128) }
 {
-    if 128 < b {
-        return 127;
-    }
-    (b as i16 - 1) as i8
+    (b.min(128) as i16 - 1) as i8
 }

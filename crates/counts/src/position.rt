@@ -1,13 +1,14 @@
 // One position, count by count. It stands in a 64-bit word: a byte for each of its eight counts, one higher, the first in the
 // highest; 0 where no run is and where the side has no state.
-ghost use Rattle.std.specs.Prelude.{◌≡◌, ◌≤◌, ◌<◌, ◌+◌};
+ghost use Rattle.std.specs.Prelude.{◌≡◌, ℕ, ◌≤◌, ◌<◌, ◌+◌};
 ghost use Rattle.meaning.specs.Lists.{largest, tab};
 ghost use Rattle.meaning.specs.Counting.{one_higher, count as count_of, forward as forward_by};
 ghost use Rattle.meaning.specs.Written.{position_bytes};
 ghost use Rattle.counts.specs.Halves.{half_of, brought, start_counts};
-ghost use Rattle.counts.specs.Words.{counts_in};
+ghost use Rattle.counts.specs.Words.{counts_in, CountsGiven};
 
 use crate::count;
+use std::array;
 
 // One letter's half of a round: for each source a byte of targets, for each target its mark.
 #[derive(Clone, Copy)]
@@ -26,6 +27,15 @@ pub fn at(m: u64, q: usize) -> i8
     count::from_byte(((m >> (56 - 8 * q)) % 128) as u8)
 }
 
+// The word whose byte for each state q is byte(q): a count one higher, and the top bit is no part of it.
+#[inline]
+pub fn of_bytes<F: Fn(usize) -> u8>(byte: F) -> u64
+    requires { (q : ℕ) → q < 8 → F.pre byte q }
+    ensures { CountsGiven (F.post byte) result }
+{
+    u64::from_be_bytes(array::from_fn(byte))
+}
+
 // The largest count that a letter's edges bring to state q.
 fn arriving(m: u64, half: Half, q: usize, k: usize) -> i8
     requires { k ≤ 7 }
@@ -35,14 +45,10 @@ fn arriving(m: u64, half: Half, q: usize, k: usize) -> i8
     if 8 <= q {
         return most;
     }
-    let mut p = 0;
-    while p < 8 {
-        if p < half.sources {
-            if masks::has(half.masks[p], q) {
-                most = count::greater(most, count::plus(at(m, p), half.marks[q], k));
-            }
+    for p in 0..8 {
+        if p < half.sources && masks::has(half.masks[p], q) {
+            most = most.max(count::plus(at(m, p), half.marks[q], k));
         }
-        p += 1;
     }
     most
 }
@@ -52,16 +58,13 @@ pub fn forward(m: u64, half: Half, k: usize) -> u64
     requires { k ≤ 7 }
     ensures { counts_in result ≡ position_bytes (forward_by k (half_of half) (counts_in m)) }
 {
-    let mut word = 0u64;
-    let mut q = 0;
-    while q < 8 {
-        word = word * 256;
+    of_bytes(|q| {
         if q < half.targets {
-            word += count::to_byte(arriving(m, half, q, k)) as u64;
+            count::to_byte(arriving(m, half, q, k))
+        } else {
+            0
         }
-        q += 1;
-    }
-    word
+    })
 }
 
 // The one maximal safe position of a side of n states: K at each.
@@ -69,16 +72,7 @@ pub fn brim(k: usize, n: usize) -> u64
     requires { k ≤ 7 }
     ensures { counts_in result ≡ position_bytes (tab n (λ _. k + 1)) }
 {
-    let mut word = 0u64;
-    let mut q = 0;
-    while q < 8 {
-        word = word * 256;
-        if q < n {
-            word += k as u64 + 1;
-        }
-        q += 1;
-    }
-    word
+    of_bytes(|q| if q < n { k as u8 + 1 } else { 0 })
 }
 
 // The start position of a side of n states: at each start state 0 plus its mark, capped as any count.
@@ -86,16 +80,11 @@ pub fn start(starts: u8, marks: [u8; 8], n: usize, k: usize) -> u64
     requires { k ≤ 7 }
     ensures { counts_in result ≡ position_bytes (start_counts k n starts marks) }
 {
-    let mut word = 0u64;
-    let mut q = 0;
-    while q < 8 {
-        word = word * 256;
-        if q < n {
-            if masks::has(starts, q) {
-                word += count::to_byte(count::plus(0, marks[q], k)) as u64;
-            }
+    of_bytes(|q| {
+        if q < n && masks::has(starts, q) {
+            count::to_byte(count::plus(0, marks[q], k))
+        } else {
+            0
         }
-        q += 1;
-    }
-    word
+    })
 }

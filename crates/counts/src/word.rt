@@ -1,5 +1,5 @@
 // All counts of a position at once. A byte's top bit is no part of its count, so all eight are compared by one subtraction.
-ghost use Rattle.std.specs.Prelude.{◌≡◌, ◌≤◌, ◌<◌};
+ghost use Rattle.std.specs.Prelude.{◌≡◌, ◌≤◌, ◌<◌, bit_and};
 ghost use Rattle.meaning.specs.Lists.{before as before_bytes};
 ghost use Rattle.meaning.specs.Counting.{safe as safe_at};
 ghost use Rattle.meaning.specs.Compared.{compared};
@@ -10,6 +10,7 @@ ghost use Rattle.counts.specs.Words.{spread_counts, SpreadsOf, mark_counts, Char
 use crate::position::Half;
 use crate::{count, position};
 use meaning::Comparison;
+use std::array;
 
 // The top bit of each byte, and the bits below it.
 const TOPS: u64 = 0x8080_8080_8080_8080;
@@ -17,6 +18,8 @@ const TOPS: u64 = 0x8080_8080_8080_8080;
 const COUNTS: u64 = 0x7F7F_7F7F_7F7F_7F7F;
 // One in each byte.
 const ONES: u64 = 0x0101_0101_0101_0101;
+// In the byte of each state that state's bit of a mask.
+const BITS: u64 = 0x0102_0408_1020_4080;
 
 // In the top bit of each byte whether the one's count is at most the other's. A byte with its top
 // bit set borrows nothing from the next, whatever count is taken off.
@@ -27,28 +30,23 @@ fn at_most(a: u64, b: u64) -> u64
 }
 
 // What two positions compare to. A caller that asks for at most alone is left with one of the two subtractions.
+#[tactic(auto, using(crate::proofs::Compared::compared_words))]
 pub fn compare(a: u64, b: u64) -> Comparison
     ensures { result ≡ compared (counts_in a) (counts_in b) }
 {
     let under = at_most(a, b) == TOPS;
     let over = at_most(b, a) == TOPS;
-    if under {
-        if over {
-            Comparison::Same
-        } else {
-            Comparison::Below
-        }
-    } else {
-        if over {
-            Comparison::Above
-        } else {
-            Comparison::Neither
-        }
+    match (under, over) {
+        (true, true) => Comparison::Same,
+        (true, false) => Comparison::Below,
+        (false, true) => Comparison::Above,
+        (false, false) => Comparison::Neither,
     }
 }
 
 // The lesser counts of two positions: the bytes of one where its count is at most the other's, and
 // else the other's.
+#[tactic(auto, using(crate::proofs::Bytes::flags_low, crate::proofs::Bytes::lesser_words))]
 pub fn lesser(a: u64, b: u64) -> u64
     ensures { counts_in result ≡ lesser_counts (counts_in a) (counts_in b) }
 {
@@ -57,6 +55,7 @@ pub fn lesser(a: u64, b: u64) -> u64
 }
 
 // The greater counts of two positions: the other's bytes where the one's count is at most its own.
+#[tactic(auto, using(crate::proofs::Bytes::flags_low, crate::proofs::Bytes::greater_words))]
 pub fn greater(a: u64, b: u64) -> u64
     ensures { counts_in result ≡ greater_counts (counts_in a) (counts_in b) }
 {
@@ -65,6 +64,7 @@ pub fn greater(a: u64, b: u64) -> u64
 }
 
 // Whether no count exceeds k.
+#[tactic(auto, using(crate::proofs::Bytes::below_words, crate::proofs::Charging::safe_words))]
 pub fn safe(word: u64, k: usize) -> bool
     requires { k ≤ 7 }
     ensures { result ≡ safe_at k (counts_in word) }
@@ -72,43 +72,33 @@ pub fn safe(word: u64, k: usize) -> bool
     at_most(word, (k as u64 + 1) * ONES) == TOPS
 }
 
+// The number by which positions are put in order: a word without its top bits.
+pub fn rank(word: u64) -> u64
+    ensures { result ≡ bit_and word 9187201950435737471 }
+{
+    word & COUNTS
+}
+
 // Whether one position comes before another, ascending as byte strings.
+#[tactic(auto, using(crate::proofs::Bytes::before_words))]
 pub fn before(a: u64, b: u64) -> bool
     ensures { result ≡ before_bytes (counts_in a) (counts_in b) }
 {
-    (a & COUNTS) < (b & COUNTS)
+    rank(a) < rank(b)
 }
 
 // For one target: no count where the source has an edge to it, and the highest where it has none.
 fn bar(half: Half, q: usize) -> u64
-    requires { q < 8 }
     ensures { counts_in result ≡ bar_counts half.masks q }
 {
-    let mut word = 0u64;
-    let mut p = 0;
-    while p < 8 {
-        word = word * 256;
-        if !masks::has(half.masks[p], q) {
-            word += 127;
-        }
-        p += 1;
-    }
-    word
+    position::of_bytes(|p| if masks::has(half.masks[p], q) { 0 } else { 127 })
 }
 
 // The bars of the targets.
 pub fn bars(half: Half) -> [u64; 8]
     ensures { BarsOf half.masks half.targets result }
 {
-    let mut out = [0u64; 8];
-    let mut q = 0;
-    while q < 8 {
-        if q < half.targets {
-            out[q] = bar(half, q);
-        }
-        q += 1;
-    }
-    out
+    array::from_fn(|q| if q < half.targets { bar(half, q) } else { 0 })
 }
 
 // The step back by a letter: from the most that is safe to the least that each target leaves to its
@@ -118,63 +108,38 @@ pub fn back(m: u64, half: Half, bars: &[u64; 8], most: u64) -> u64
     ensures { counts_in result ≡ back_under (counts_in most) (half_of half) (counts_in m) }
 {
     let mut low = most;
-    let mut q = 0;
-    while q < 8 {
+    for q in 0..8 {
         if q < half.targets {
             let eased = count::less(position::at(m, q), half.marks[q]);
             let all = count::to_byte(eased) as u64 * ONES;
             low = lesser(low, bars[q] | all);
         }
-        q += 1;
     }
     low
 }
 
-// For one source's byte of targets: the highest count at each of them, and none elsewhere.
+// For one source's byte of targets: the highest count at each of them, and none elsewhere. Each byte keeps its own state's bit of the
+// mask, and is raised past its counts exactly if that is set.
+#[tactic(auto, using(crate::proofs::Spreads::spread_words))]
 fn spread(mask: u8) -> u64
     ensures { counts_in result ≡ spread_counts mask }
 {
-    // most bytes of a small table have no target
-    if mask == 0 {
-        return 0;
-    }
-    let mut word = 0u64;
-    let mut q = 0;
-    while q < 8 {
-        word = word * 256;
-        if masks::has(mask, q) {
-            word += 127;
-        }
-        q += 1;
-    }
-    word
+    let own = (mask as u64 * ONES) & BITS;
+    ((own + COUNTS) & TOPS) / 128 * 127
 }
 
 // The spreads of a table's bytes of targets.
 pub fn spreads(targets: [u8; 64]) -> [u64; 64]
     ensures { SpreadsOf targets result }
 {
-    let mut out = [0u64; 64];
-    let mut i = 0;
-    while i < 64 {
-        out[i] = spread(targets[i]);
-        i += 1;
-    }
-    out
+    array::from_fn(|i| spread(targets[i]))
 }
 
 // Eight marks in a word, where each is at most 100.
 pub fn marks(marks: [u8; 8]) -> u64
     ensures { counts_in result ≡ mark_counts marks }
 {
-    let mut word = 0u64;
-    let mut q = 0;
-    while q < 8 {
-        let mark = marks[q];
-        word = word * 256 + if mark < 100 { mark as u64 } else { 100 };
-        q += 1;
-    }
-    word
+    position::of_bytes(|q| marks[q].min(100))
 }
 
 // Charges each count with its state's mark: no run stays none, and an overrun stops at k + 2.
@@ -199,15 +164,13 @@ pub fn forward(word: u64, spreads: &[u64; 64], letter: usize, marks: u64, k: usi
         return 0;
     }
     let mut most = 0u64;
-    let mut p = 0;
-    while p < 8 {
+    for p in 0..8 {
         let count = (word >> (56 - 8 * p)) % 128;
         // a source where no run is brings nothing
         if 0 < count {
             let all = count * ONES;
             most = greater(most, spreads[letter * 8 + p] & all);
         }
-        p += 1;
     }
     charged(most, marks, k)
 }

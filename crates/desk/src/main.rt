@@ -3,7 +3,7 @@
 #![tactic(auto)]
 
 use lines::files;
-use meaning::Answer;
+use meaning::{Answer, Verdict};
 use std::io;
 use table::record::INPUT;
 
@@ -12,33 +12,32 @@ fn main(rt: HostRuntime) -> io::Result<()> {
     let n = files::read_full(&mut rt.stdin(), &mut table)?;
     let mut winners = [0u8; 2048];
     let mut controller = [0u8; 8192];
-    let mut k = 0;
-    while k < 8 {
+    for k in 0..8 {
         let answer = game::solve(&table[..n], k, 256, &mut winners, &mut controller);
         print_answer(&rt, k, answer)?;
-        let verdict = answer.verdict;
-        let code = meaning::code(verdict);
-        if code == 0 {
-            let inputs = table::read::letters(&table[..n], INPUT);
-            // "after code 0 the rows as numbers (state, output, input, next)"
-            lines::fours(&rt, &controller, lines::rows(answer.winners, inputs))?;
+        match answer.verdict {
+            Verdict::Realizable(_) => {
+                // "after code 0 the rows as numbers (state, output, input, next)"
+                let inputs = table::read::letters(&table[..n], INPUT);
+                return lines::numbers::<4>(&rt, &controller, lines::rows(answer.winners, inputs));
+            }
+            Verdict::Unrealizable => {}
+            Verdict::Refused(_) => return Ok(()),
         }
-        if code != 1 {
-            return Ok(());
-        }
-        k += 1;
     }
     Ok(())
 }
 
 // "a line with K and the answer's fields by name, all but which"
 fn print_answer(rt: &impl Print, k: usize, answer: Answer) -> io::Result<()> {
-    let verdict = answer.verdict;
-    lines::field(rt, b"k ", k)?;
-    lines::field(rt, b" code ", meaning::code(verdict))?;
-    lines::field(rt, b" place ", answer.place)?;
-    lines::field(rt, b" rounds ", answer.rounds)?;
-    lines::field(rt, b" winners ", answer.winners)?;
-    lines::field(rt, b" start ", meaning::start(verdict))?;
-    lines::end(rt)
+    let Answer {
+        verdict,
+        place,
+        rounds,
+        winners,
+        ..
+    } = answer;
+    let code = verdict.code();
+    let start = verdict.start();
+    println!(rt; "k {k} code {code} place {place} rounds {rounds} winners {winners} start {start}")
 }

@@ -1,29 +1,29 @@
--- A call that solves, by the order of its checks, whichever call it is: 2 and 3 before any others, 4 to 10 of a table by the answer of
--- `check`, and 11 and 12 of a stage by how its rounds settled. Each law takes what the code has found to what the definition judges next,
--- so that the outcome is put together check by check. Assumes nothing.
-use mathlib.Core.Path.{◌≡◌, refl, sym, ap, ◌∙◌}
+-- A call that solves, by the order of its checks, whichever call it is: 2 and 3 before any others, then those whose first failure is passed
+-- on as a fault, as 4 to 10 of a table are, and 11 and 12 of a stage by how its rounds settled. Each law takes what the code has found to
+-- what the definition judges next, so that the outcome is put together check by check. Assumes nothing.
+use mathlib.Core.Path.{◌≡◌, sym, ap, ◌∙◌}
 use mathlib.Core.Bool.{true, false}
 use mathlib.Core.List.{List, ◌∷◌, ◌++◌}
 use Prim.Native.Nat.{ℕ, ◌≤◌, ◌<◌}
 use native.Mathlib.Omega.{arith}
 use borrow.Author.Tests.{lt-ltb, le-ltb}
+use Rattle.std.specs.Prelude.{Result, Ok, Err}
+use Rattle.std.specs.Result.{IsErrAnd}
 use Rattle.meaning.specs.declared.Answer.{Answer}
-use Rattle.meaning.specs.declared.Refusal.{Refusal}
-use Rattle.meaning.specs.declared.Refusal.TheVariants.{Bound, Room, Full}
+use Rattle.meaning.specs.declared.Fault.{Fault}
+use Rattle.meaning.specs.declared.Refusal.TheVariants.{Bound, Room, Full as RoundsFull}
 use Rattle.meaning.specs.Records.{records_of, output, input}
 use Rattle.meaning.specs.Table.{Table, table_of, Small}
 use Rattle.meaning.specs.Rounds.{Set, FirstSet}
-use Rattle.meaning.specs.Answers.{refused, Solved, unsolved, solved_from, solved}
+use Rattle.meaning.specs.Answers.{refused, Solved, unsolved, solved_from, solved, told, fault_of}
 use Rattle.meaning.specs.Checks.{Check, check, judge, bound, room, table_checks, stage_checks, Passes}
 use Rattle.meaning.proofs.Records.{letters-top}
+use Rattle.meaning.proofs.Checks.{judge-append, judge-passes}
 use Rattle.meaning.proofs.Sound.{passes_sound, passes-good, passes-small}
-use Rattle.table.specs.declared.Checked.TheVariants.{Fails}
-use Rattle.table.specs.Checked.{checked_of}
-use Rattle.table.proofs.Judged.{table-refuses, table-passes}
-use Rattle.lists.specs.Members.{members}
+use Rattle.table.proofs.Judged.{told as told_of, by_reading, judge-told}
+use Rattle.lists.specs.Members.{positions}
+use Rattle.tops.specs.declared.Full.{Full}
 use Rattle.rounds.specs.Rounds.{Settles}
-use Rattle.rounds.specs.declared.Settled.{Settled}
-use Rattle.rounds.specs.declared.Settled.TheVariants.{After, Full as FullAfter}
 use Rattle.rounds.proofs.Settles.{full_settled, after_settled}
 use Rattle.writing.specs.Playable.{Playable}
 use Rattle.game.specs.Finished.{finished, Roomy, Fit}
@@ -34,12 +34,12 @@ module _ (K N : ℕ) (win con : List ℕ) (cs : List Check) (grant : Solved) whe
   abbrev pub opened : Solved
   opened = judge (bound K ∷ room N win con ∷ cs) (unsolved win con) grant
 
-  pub bound-refused : 7 < K → {answer : Answer} → answer ≡ refused (check Bound 0 0 true) → solved answer win con ≡ opened
+  pub bound-refused : 7 < K → {fault : Fault} → fault ≡ fault_of (check Bound 0 0 true) → solved (told (Err fault)) win con ≡ opened
   unfolding bound unsolved
   bound-refused h e = rw (e, lt-ltb 7 K h)
 
-  pub room-refused : K ≤ 7 → (room N win con).failed ≡ true → {answer : Answer} → answer ≡ refused (check Room 0 0 true)
-      → solved answer win con ≡ opened
+  pub room-refused : K ≤ 7 → (room N win con).failed ≡ true → {fault : Fault} → fault ≡ fault_of (check Room 0 0 true)
+      → solved (told (Err fault)) win con ≡ opened
   unfolding bound room unsolved
   room-refused h p e = rw (e, le-ltb 7 K h, p)
 
@@ -47,24 +47,28 @@ module _ (K N : ℕ) (win con : List ℕ) (cs : List Check) (grant : Solved) whe
   unfolding bound
   opened-on h p = rw (le-ltb 7 K h, p)
 
--- rounds that end after no number of rounds end with FULL
-pub full-otherwise : (settled : Settled) → ((rounds number : ℕ) → settled ≡ After rounds number → ⊥) → settled ≡ FullAfter
-full-otherwise FullAfter none = refl
-full-otherwise (After rounds number) none = absurd (none rounds number refl)
+-- a fault that is passed on is told as the refusal of its check
+pub told-passed : (result : Result Answer Fault) (fault : Fault) → IsErrAnd result (λ f. f ≡ fault)
+    → told result ≡ refused (check fault.refusal fault.place fault.which true)
+told-passed (Ok _) fault e = absurd e
+told-passed (Err _) fault e = ap (λ (f : Fault). refused (check f.refusal f.place f.which true)) e
 
--- checks 4 to 10 of a table, before any others
-module _ (which : ℕ) (bytes : List ℕ) (win con : List ℕ) (cs : List Check) (grant : Solved) where
+-- checks whose first failure is passed on as a fault, before any others
+module _ {B : Type 0} (cs : List Check) (granted : B) (win con : List ℕ) (ds : List Check) (grant : Solved) where
   abbrev pub read : Solved
-  read = judge (table_checks which bytes ++ cs) (unsolved win con) grant
+  read = judge (cs ++ ds) (unsolved win con) grant
 
-  pub table-refused : {r : Refusal} {place : ℕ} → checked_of (table_checks 0 bytes) ≡ Fails r place → {answer : Answer}
-      → answer ≡ refused (check r place which true) → solved answer win con ≡ read
+  pub fault-refused : {fault : Fault} → told_of cs granted ≡ Err fault → (result : Result Answer Fault) → IsErrAnd result (λ f. f ≡ fault)
+      → solved (told result) win con ≡ read
   unfolding unsolved
-  table-refused f e =
-      ap (λ (answer : Answer). solved answer win con) e ∙ sym (table-refuses which bytes cs (unsolved win con) grant f)
+  fault-refused f result e =
+      ap (λ (answer : Answer). solved answer win con) (told-passed result _ e)
+      ∙ sym (judge-append cs ds (unsolved win con) grant
+      ∙ judge-told cs granted (unsolved win con) (judge ds (unsolved win con) grant)
+      ∙ ap (by_reading (λ (f : Fault). unsolved win con (check f.refusal f.place f.which true)) (λ _. judge ds (unsolved win con) grant)) f)
 
-  pub read-on : Passes (table_checks which bytes) → judge cs (unsolved win con) grant ≡ read
-  read-on p = sym (table-passes which bytes cs (unsolved win con) grant p)
+  pub read-on : Passes cs → judge ds (unsolved win con) grant ≡ read
+  read-on p = sym (judge-append cs ds (unsolved win con) grant ∙ judge-passes cs (unsolved win con) (judge ds (unsolved win con) grant) p)
 
 -- the table of bytes that pass 4 to 10 may be solved
 pub passes_fit : (which : ℕ) (bytes : List ℕ) → Passes (table_checks which bytes) → Fit (table_of (records_of bytes))
@@ -79,34 +83,29 @@ passes_fit which bytes p =
     }
 
 -- checks 11 and 12 of a stage
-module _ {K : ℕ} {t : Table} {X : Set} {N : ℕ} {out : List ℕ} {settled : Settled} (settles : Settles K t X N out settled) where
+module _ {K : ℕ} {t : Table} {X : Set} {N : ℕ} {out : List ℕ} {settled : Result ℕ Full} (settles : Settles K t X N out settled) where
   -- FULL, whatever a call makes of it
-  pub stage-full : {A : Type 0} (which : ℕ) (refuse : Check → A) (grant : A) → settled ≡ FullAfter
-      → judge (stage_checks which K N t X) refuse grant ≡ refuse (check Full 0 which true)
+  pub stage-full : {A : Type 0} (which : ℕ) (refuse : Check → A) (grant : A) → {f : Full} → settled ≡ Err f
+      → judge (stage_checks which K N t X) refuse grant ≡ refuse (check RoundsFull 0 which true)
   unfolding stage_checks
   stage-full which refuse grant f = rw (full_settled settles f)
 
-  pub settled_full : settled ≡ FullAfter → (which : ℕ) (win con : List ℕ) (grant : Solved) → {answer : Answer}
-      → answer ≡ refused (check Full 0 which true) → solved answer win con ≡ judge (stage_checks which K N t X) (unsolved win con) grant
-  unfolding unsolved
-  settled_full f which win con grant e = rw (e, stage-full which (unsolved win con) grant f)
-
-  module _ {r n : ℕ} (e : settled ≡ After r n) (first : FirstSet K t X) where
+  module _ {r : ℕ} (e : settled ≡ Ok r) (first : FirstSet K t X) where
     -- the list of winners is finished, and that is what is left to judge
     pub settled_finished : Small t → (which : ℕ) (win con : List ℕ)
-        → finished K t (members out n) r win con ≡ judge (stage_checks which K N t X) (unsolved win con) (solved_from K t X win con)
+        → finished K t (positions out) r win con ≡ judge (stage_checks which K N t X) (unsolved win con) (solved_from K t X win con)
     settled_finished small which win con =
         let (roomy, rounds, _, list, _) = after_settled settles e in
         rw (list, rounds) (stage-finished K t X small first win con which N roomy)
 
     module _ (fit : Fit t) where
       -- it may be finished
-      pub settled_playable : K ≤ 7 → N ≤ 256 → Playable K t (members out n)
+      pub settled_playable : K ≤ 7 → N ≤ 256 → Playable K t (positions out)
       settled_playable k h =
           let (_, _, number, list, few) = after_settled settles e in
           rw list (listed_playable K t X fit.small first fit.good k fit.outputs fit.inputs (omega arith))
 
-      pub settled_roomy : (win con : List ℕ) → (room N win con).failed ≡ false → Roomy (members out n) win con
+      pub settled_roomy : (win con : List ℕ) → (room N win con).failed ≡ false → Roomy (positions out) win con
       settled_roomy win con p =
           let (_, _, number, list, few) = after_settled settles e in
           rw list (listed-roomy K t X fit.small first win con N p (omega arith))

@@ -7,8 +7,8 @@ use mathlib.Core.List.{List, [], ◌∷◌, ◌++◌, map, flat_map, map-map, ma
 use Prim.Native.Nat.{ℕ, suc, ◌+◌, ◌-◌, ◌*◌, ◌≤◌, ◌<◌}
 use native.Mathlib.Nat.{suc-mul, mul-le-mul_right}
 use native.Mathlib.Omega.{arith}
-use lib.ListN.{length, length-map, get_or-append}
-use lib.Seq.{get_or-append-add}
+use lib.ListN.{length, take, length-map, length-append, get_or-append}
+use lib.Seq.{get_or-append-add, length-take-le}
 use lib.Dec.{ltb}
 use borrow.Author.Tests.{ltb-true, ltb-false}
 use Rattle.meaning.specs.Counting.{Position, count}
@@ -16,7 +16,8 @@ use Rattle.meaning.specs.Written.{position_bytes}
 use Rattle.meaning.proofs.Lists.{tab-same, flat_map-length, flat_map-more}
 use Rattle.meaning.proofs.PairLists.{beside}
 use Rattle.counts.proofs.Wide.{wide_at}
-use Rattle.lists.proofs.Members.{Sized}
+use Rattle.lists.specs.Members.{positions}
+use Rattle.lists.proofs.Members.{Sized, positions-length}
 use Rattle.join.specs.Beside.{beside_at, all_beside}
 
 module _ (n : ℕ) where
@@ -31,8 +32,28 @@ module _ (n : ℕ) where
   all_more Fs Gs F = flat_map-more (λ (H : Position). map (beside_at n H) Gs) Fs F
 
 -- rows of one length, one after the other
-pub row_fits : (i rows size : ℕ) → i < rows → i * size + size ≤ rows * size
+row_fits : (i rows size : ℕ) → i < rows → i * size + size ≤ rows * size
 row_fits i rows size h = rw suc-mul at (mul-le-mul_right {m = suc i} {n = rows} size h)
+
+-- the pairs of two lists of words, in rows: how many there are, and that those before one of them are fewer
+module _ (n : ℕ) (a b : List ℕ) where
+  pub pairs-number : length (all_beside n (positions a) (positions b)) ≡ length a * length b
+  pairs-number = all-number n (positions a) (positions b) ∙ ap₂ ◌*◌ (positions-length a) (positions-length b)
+
+  pub pairs-before : (i j : ℕ) (F : Position) (out : List ℕ) → i < length a → j < length b
+      → positions out ≡ all_beside n (positions (take i a)) (positions b) ++ map (beside_at n F) (positions (take j b))
+      → length out < length a * length b
+  pairs-before i j F out h l e =
+      let rows = all_beside n (positions (take i a)) (positions b) in
+      let row = map (beside_at n F) (positions (take j b)) in
+      omega (
+        arith,
+        sym (positions-length out) ∙ ap length e ∙ length-append rows row,
+        all-number n (positions (take i a)) (positions b),
+        ap₂ ◌*◌ (positions-length (take i a) ∙ length-take-le i a (omega arith)) (positions-length b),
+        length-map (positions (take j b)) (beside_at n F) ∙ positions-length (take j b) ∙ length-take-le j b (omega arith),
+        row_fits i (length a) (length b) h,
+      )
 
 -- a pair in eight counts is the pair of the positions
 pub beside_wide : (n : ℕ) (F G : Position) → length F ≡ n → beside_at n (position_bytes F) (position_bytes G) ≡ position_bytes (F ++ G)

@@ -1,4 +1,4 @@
--- By parts, stage by stage: what the call comes to by its checks in their order, and what each stage may take from two tables that pass.
+-- By parts, stage by stage: what each stage may take from two tables that pass, and what the stages come to by what each has found.
 -- The joined table's bytes pass again, it is the two side by side, and the pairs are a first set of it; so the rounds may begin at their
 -- list, which covers them, and a list of winners alone is paired into it. Assumes nothing.
 use mathlib.Core.Path.{◌≡◌, sym, ap, ◌∙◌}
@@ -8,15 +8,15 @@ use Prim.Native.Nat.{ℕ, ◌≤◌, ◌<◌}
 use lib.Dec.{ltb}
 use lib.ListN.{length}
 use borrow.Author.Tests.{lt-ltb, le-ltb}
-use Rattle.meaning.specs.declared.Refusal.TheVariants.{Full}
+use Rattle.meaning.specs.declared.Refusal.TheVariants as R
 use Rattle.meaning.specs.Records.{records_of, output, input}
 use Rattle.meaning.specs.Table.{table_of, stated, Small}
 use Rattle.meaning.specs.Counting.{Position}
 use Rattle.meaning.specs.Rounds.{all_safe, winning, maximal_members, FirstSet}
 use Rattle.meaning.specs.Written.{position_bytes, winners}
 use Rattle.meaning.specs.Join.{joined, pairs, joined_bytes, joined_table}
-use Rattle.meaning.specs.Answers.{unsolved, solved_from, parts, staged}
-use Rattle.meaning.specs.Checks.{Check, check, judge, bound, room, stage_checks, pair_checks, parts_checks, Passes, parts_stages}
+use Rattle.meaning.specs.Answers.{unsolved, solved_from, staged}
+use Rattle.meaning.specs.Checks.{Check, check, judge, stage_checks, pair_checks, Passes, parts_stages}
 use Rattle.meaning.proofs.Rounds.{all_safe-first, winning-safe}
 use Rattle.meaning.proofs.Records.{records_back, letters-top}
 use Rattle.meaning.proofs.Checks.{judge-append}
@@ -26,38 +26,22 @@ use Rattle.meaning.proofs.Parts.{pairs_first}
 use Rattle.meaning.proofs.PairLists.{pairs-members}
 use Rattle.meaning.proofs.JoinGood.{joined_sound}
 use Rattle.meaning.proofs.Join.{joined_union, joined-good, joined-passes}
+use Rattle.std.specs.Prelude.{Result, Ok, Err}
 use Rattle.table.specs.declared.Table as T
 use Rattle.table.specs.Packed.{table_in, packed}
 use Rattle.table.proofs.Good.{good-table}
+use Rattle.lists.specs.Members.{positions}
+use Rattle.tops.specs.declared.Full.{Full}
 use Rattle.sets.proofs.Engine.{stands-length, members-sized}
-use Rattle.rounds.specs.declared.Settled.{Settled}
-use Rattle.rounds.specs.declared.Settled.TheVariants as S
 use Rattle.rounds.specs.Rounds.{covered_by, FirstList, Settles}
 use Rattle.rounds.proofs.First.{first-covered, first_list}
+use Rattle.rounds.proofs.Settles.{after_settled}
 use Rattle.game.specs.Finished.{Fit}
 use Rattle.game.proofs.InOrder.{stage-full}
-use Rattle.joined.specs.declared.pair.Readings.{Readings}
-use Rattle.joined.specs.Joined.{ReadBoth}
-use Rattle.joined.proofs.Paired.{none-fails, read-passes}
 use Rattle.join.specs.Beside.{all_beside}
 use Rattle.join.specs.Parts.{FirstPairs, last_stage, in_turn}
 use Rattle.join.proofs.Pairs.{all_wide}
 use Rattle.join.proofs.Settles.{stage_passed}
-
-module _ (one two : List ℕ) (K N : ℕ) (win con : List ℕ) where
-  -- 2, 3, the checks of the two tables, and then the stages in turn
-  pub parts-judged : parts one two K N win con
-      ≡ judge (bound K ∷ room N win con ∷ []) (unsolved win con)
-      (judge (pair_checks one two) (unsolved win con) (in_turn one two K N win con))
-  unfolding parts parts_checks in_turn
-  parts-judged =
-      ap (judge (bound K ∷ room N win con ∷ []) (unsolved win con))
-      (judge-append (pair_checks one two) (parts_stages one two K N) (unsolved win con)
-      (solved_from K (joined_table one two) (pairs K (stated one) (stated two)) win con))
-
--- two tables that were checked and read pass all the checks
-pub checks-pass : (one two : List ℕ) {read : Readings} → ReadBoth one two read → Passes (pair_checks one two)
-checks-pass one two both = none-fails (pair_checks one two) (read-passes one two both)
 
 module _ (one two : List ℕ) (p : Passes (pair_checks one two)) where
   -- what is read of the joined table's bytes is the joined table
@@ -121,10 +105,22 @@ module _ (one two : List ℕ) (p : Passes (pair_checks one two)) where
         (sym (ap (λ (n : ℕ). maximal_members K n (pairs K t u)) (controllers_sum t u (joined_table one two) (joined_union one two p))
         ∙ pairs-members K t u))
 
+-- a list of pairs that the last stage may begin with: past the room it is FULL, and else that stage is left
+pub record Listed (one two : List ℕ) (K N : ℕ) (win con : List ℕ) (l : List Position) : Type 0 where
+  pub stands : FirstPairs one two K l
+  pub crowded : N < length l → in_turn one two K N win con ≡ unsolved win con (check R.Full 0 0 true)
+  pub roomy : length l ≤ N → in_turn one two K N win con ≡ last_stage one two K N win con
+
+-- the rounds of a table alone, from all safe positions
+abbrev pub Alone : ℕ → ℕ → List ℕ → List ℕ → Result ℕ Full → Type 0
+Alone K N bytes out settled = Settles K (stated bytes) (all_safe K (stated bytes).controllers) N out settled
+
 -- the stages in turn: of each table alone, the first list of pairs, and the last
 module _ (one two : List ℕ) (K N : ℕ) (win con : List ℕ) where
   abbrev crowded : List Check
-  crowded = check Full 0 0 (ltb N (length (maximal_members K (joined_table one two).controllers (pairs K (stated one) (stated two))))) ∷ []
+  crowded =
+      let listed = maximal_members K (joined_table one two).controllers (pairs K (stated one) (stated two)) in
+      check R.Full 0 0 (ltb N (length listed)) ∷ []
 
   abbrev alone : ℕ → List ℕ → List Check
   alone which bytes = stage_checks which K N (stated bytes) (all_safe K (stated bytes).controllers)
@@ -143,33 +139,34 @@ module _ (one two : List ℕ) (K N : ℕ) (win con : List ℕ) where
       ∙ judge-append (alone 1 one) (alone 2 two) refuse (judge last refuse grant)
 
   -- by what the rounds of each table alone answer
-  module _ (p : Passes (pair_checks one two))
-      {ones : List ℕ} {first : Settled} (settles : Settles K (stated one) (all_safe K (stated one).controllers) N ones first) where
-    pub first-full : first ≡ S.Full → in_turn one two K N win con ≡ unsolved win con (check Full 0 1 true)
+  module _ (p : Passes (pair_checks one two)) {ones : List ℕ} {first : Result ℕ Full} (settles : Alone K N one ones first) where
+    pub first-full : {f : Full} → first ≡ Err f → in_turn one two K N win con ≡ unsolved win con (check R.Full 0 1 true)
     first-full e = stages_apart ∙ stage-full settles 1 (unsolved win con) _ e
 
-    module _ {r n : ℕ} (after : first ≡ S.After r n)
-        {twos : List ℕ} {second : Settled} (other : Settles K (stated two) (all_safe K (stated two).controllers) N twos second) where
+    module _ {r : ℕ} (after : first ≡ Ok r) {twos : List ℕ} {second : Result ℕ Full} (other : Alone K N two twos second) where
       first_passed : in_turn one two K N win con
           ≡ judge (alone 2 two) (unsolved win con) (judge crowded (unsolved win con) (last_stage one two K N win con))
       first_passed = stages_apart ∙ stage_passed settles after (all_safe-first K (stated one)) (first-output one two p) 1
           (unsolved win con) _
 
-      pub second-full : second ≡ S.Full → in_turn one two K N win con ≡ unsolved win con (check Full 0 2 true)
+      pub second-full : {f : Full} → second ≡ Err f → in_turn one two K N win con ≡ unsolved win con (check R.Full 0 2 true)
       second-full e = first_passed ∙ stage-full other 2 (unsolved win con) _ e
 
-      -- the first list of pairs
-      module _ {r' n' : ℕ} (after' : second ≡ S.After r' n') (l : List Position) (stands : FirstPairs one two K l) where
-        listed_passed : in_turn one two K N win con
-            ≡ judge (check Full 0 0 (ltb N (length l)) ∷ []) (unsolved win con) (last_stage one two K N win con)
-        listed_passed =
-            first_passed
-            ∙ stage_passed other after' (all_safe-first K (stated two)) (second-output one two p) 2 (unsolved win con) _
-            ∙ ap (λ (n : ℕ). judge (check Full 0 0 (ltb N n) ∷ []) (unsolved win con) (last_stage one two K N win con))
-            (sym (stands-length K (joined_table one two).controllers (pairs K (stated one) (stated two)) l stands))
-
-        pub pairs-full : N < length l → in_turn one two K N win con ≡ unsolved win con (check Full 0 0 true)
-        pairs-full h = listed_passed ∙ rw (lt-ltb N (length l) h)
-
-        pub pairs_passed : length l ≤ N → in_turn one two K N win con ≡ last_stage one two K N win con
-        pairs_passed h = listed_passed ∙ rw (le-ltb N (length l) h)
+      -- the pairs of the lists of winners
+      pub alone_listed : {r' : ℕ} → second ≡ Ok r' → (n : ℕ) → n ≡ (stated one).controllers
+          → Listed one two K N win con (all_beside n (positions ones) (positions twos))
+      alone_listed after' n states =
+          let l = all_beside n (positions ones) (positions twos) in
+          let stands = pairs-listed one two p K n (positions ones) (positions twos) states (after_settled settles after).3
+          (after_settled other after').3 in
+          let left : in_turn one two K N win con
+          ≡ judge (check R.Full 0 0 (ltb N (length l)) ∷ []) (unsolved win con) (last_stage one two K N win con) =
+          first_passed
+          ∙ stage_passed other after' (all_safe-first K (stated two)) (second-output one two p) 2 (unsolved win con) _
+          ∙ ap (λ (n : ℕ). judge (check R.Full 0 0 (ltb N n) ∷ []) (unsolved win con) (last_stage one two K N win con))
+          (sym (stands-length K (joined_table one two).controllers (pairs K (stated one) (stated two)) l stands)) in
+          record {
+            stands = stands;
+            crowded = λ h. left ∙ rw (lt-ltb N (length l) h);
+            roomy = λ h. left ∙ rw (le-ltb N (length l) h);
+          }

@@ -4,7 +4,7 @@
 use mathlib.Core.Path.{◌≡◌, refl, sym, ap, ap₂, ◌∙◌, fun_ext}
 use mathlib.Core.Bool.{Bool, true, false, cond}
 use mathlib.Core.List.{List, [], ◌∷◌, ◌++◌, map, flat_map, append_assoc, map-append, map-id}
-use Prim.Native.Nat.{ℕ, zero, suc, ◌+◌, ◌*◌, ◌/◌, ◌≤◌, ◌<◌, zero-le}
+use Prim.Native.Nat.{ℕ, zero, suc, ◌+◌, ◌*◌, ◌≤◌, ◌<◌, zero-le}
 use native.Mathlib.Nat.{add-zero, zero-add}
 use native.Mathlib.Omega.{arith}
 use lib.ListN.{length, take, drop, set, length-append, length-map}
@@ -14,7 +14,7 @@ use Rattle.meaning.specs.Lists.{written}
 use Rattle.meaning.specs.Records.{Record, records_of, bytes_of, at, blank, of_kind, controller, world, output}
 use Rattle.meaning.specs.Table.{table_of}
 use Rattle.meaning.specs.Join.{by_kind, upward, renumber, joined, joined_bytes}
-use Rattle.meaning.proofs.Records.{Kind, of-controller, of-world, of_output, of-input, record_same, bytes-length, records_count}
+use Rattle.meaning.proofs.Records.{Kind, of-controller, of-world, of_output, of-input, record_same, bytes-length}
 use Rattle.meaning.proofs.JoinKinds.{beside-kind}
 use Rattle.table.specs.declared.Table.{Table}
 use Rattle.table.specs.Packed.{packed}
@@ -67,13 +67,11 @@ module _ (n m kind : ℕ) where
   moved_length rs =
       bytes-length (map (renumber n m) (of_kind kind rs)) ∙ ap (λ (k : ℕ). 4 * k) (length-map (of_kind kind rs) (renumber n m))
 
-  pub moved-room : (bytes : List ℕ) (i : ℕ) (r : Record) → i < length bytes / 4 → r ≡ at (records_of bytes) i → r.kind ≡ kind
-      → length (moved_bytes n m kind (take i (records_of bytes))) + 4 ≤ length (moved_bytes n m kind (records_of bytes))
-  moved-room bytes i r h e this =
-      let rs = records_of bytes in
+  pub moved-room : (rs : List Record) (i : ℕ) (r : Record) → i < length rs → r ≡ at rs i → r.kind ≡ kind
+      → length (moved_bytes n m kind (take i rs)) + 4 ≤ length (moved_bytes n m kind rs)
+  moved-room rs i r h e this =
       let rest = drop (suc i) rs in
-      let split : rs ≡ take i rs ++ (r ∷ rest) =
-      split_at rs i blank (omega (arith, records_count bytes)) ∙ ap (λ (s : Record). take i rs ++ (s ∷ rest)) (sym e) in
+      let split : rs ≡ take i rs ++ (r ∷ rest) = split_at rs i blank h ∙ ap (λ (s : Record). take i rs ++ (s ∷ rest)) (sym e) in
       let around : of_kind kind rs ≡ of_kind kind (take i rs) ++ (r ∷ of_kind kind rest) = ap (of_kind kind) split
       ∙ of_kind_around kind (take i rs) r rest this in
       omega (

@@ -1,30 +1,26 @@
--- What the checks of two tables come to, the tables that are read in the same go, and the bytes of a join.
-use Rattle.std.specs.Prelude.{◌≡◌, List, map, ℕ, ◌+◌, length}
+-- What the checks of two tables come to, with the tables that are read in the same go, and the bytes of a join.
+use Rattle.std.specs.Prelude.{◌≡◌, List, map, ℕ, ◌+◌, length, Result, Ok, Err}
 use lib.Seq.{sets}
+use Rattle.meaning.specs.declared.Fault.{Fault}
 use Rattle.meaning.specs.Records.{Record, bytes_of, of_kind}
+use Rattle.meaning.specs.Table.{stated}
 use Rattle.meaning.specs.Join.{renumber}
-use Rattle.meaning.specs.Checks.{Check, judge, pair_checks}
-use Rattle.table.specs.declared.Reading.{Reading}
-use Rattle.table.specs.Checked.{reading_of}
-use Rattle.joined.specs.declared.pair.Paired.{Paired}
-use Rattle.joined.specs.declared.pair.Paired.TheVariants.{Passes, Fails}
-use Rattle.joined.specs.declared.pair.Readings.{Readings}
+use Rattle.meaning.specs.Checks.{judge, pair_checks}
+use Rattle.meaning.specs.Answers.{fault_of}
+use Rattle.table.specs.Packed.{packed}
+use Rattle.joined.specs.declared.pair.Tables.{Tables}
 
--- "Checks run in this order": the refusal of the first that fails, its place and which, or none
-abbrev pub paired_of : List Check → Paired
-paired_of cs = judge cs (λ c. Fails c.refusal c.fault_at c.table) Passes
+-- the two tables that bytes state, in masks and marks
+abbrev pub tables_in : List ℕ → List ℕ → Tables
+tables_in one two = record { first = packed (stated one); second = packed (stated two) }
 
--- beside it the tables, each as it was checked and read for itself
-abbrev pub readings : Paired → Reading → Reading → Readings
-readings paired one two = record { paired = paired; first = one.table; second = two.table }
-
-abbrev pub readings_of : List ℕ → List ℕ → Readings
-readings_of one two = readings (paired_of (pair_checks one two)) (reading_of one) (reading_of two)
+-- "Checks run in this order": the two tables, or the refusal of the first check that fails, its place and which
+abbrev pub pair_of : List ℕ → List ℕ → Result Tables Fault
+pair_of one two = judge (pair_checks one two) (λ c. Err (fault_of c)) (Ok (tables_in one two))
 
 -- what is known of two tables that pass, once they are checked
-pub record ReadBoth (one two : List ℕ) (read : Readings) : Type 0 where
-  pub both_read : read ≡ readings_of one two
-  pub both-pass : read.paired ≡ Passes
+pub record ReadBoth (one two : List ℕ) (tables : Tables) : Type 0 where
+  pub both_read : pair_of one two ≡ Ok tables
 
 -- the bytes of the records of one kind, controllers renumbered upward by n and worlds by m
 abbrev pub moved_bytes : ℕ → ℕ → ℕ → List Record → List ℕ

@@ -5,7 +5,7 @@ ghost use Rattle.std.specs.Io.KnownBytes.{Consumes, IsAtEnd};
 
 use std::fmt::InlineText;
 use std::io::Read;
-use std::rt::Files;
+use std::rt::{Env, Files};
 use std::{fs, io, str};
 
 // Opens a file for reading, or says on standard error why it can't and answers none.
@@ -22,6 +22,13 @@ pub fn open<R: Files + Eprint>(rt: &R, path: &[u8]) -> io::Result<Option<R::File
             Ok(None)
         }
     }
+}
+
+// Opens the file that an argument names, or says why it can't and answers none. A word that is missing or too long names no file.
+pub fn open_argument<R: Env + Files + Eprint>(rt: &R, i: usize) -> io::Result<Option<R::File>> {
+    let mut path = [0u8; 4096];
+    let n = rt.arg(i, &mut path).unwrap_or(0);
+    open(rt, &path[..n])
 }
 
 // Writes a line to standard error: what failed, a colon and the system's words for why, without the error's number.

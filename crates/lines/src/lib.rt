@@ -1,52 +1,79 @@
-// What the programs at the desk print: a number by its name, and bytes as lines of four numbers; and how they read their files. The
-// calls that give these numbers are proved elsewhere; here no more is proved than that it is safe.
+// What the programs print: an answer's fields by name, how two positions compare, and bytes as lines of numbers; and how they read their
+// files. The calls that give these are proved elsewhere; here no more is proved than that it is safe.
 #![tactic(auto)]
 
 pub mod files;
 
-use std::io;
+ghost use Rattle.std.specs.Prelude.{◌<◌, ◌≤◌};
 
-// One number, by its name.
-pub fn field(rt: &impl Print, name: &[u8], value: usize) -> io::Result<()> {
-    rt.write_all(name)?;
-    print!(rt; "{value}")
+use meaning::{Answer, Comparison};
+use std::{fmt, io};
+
+// An answer as text: its fields by name.
+#[derive(Drop)]
+pub struct Fields(pub Answer);
+
+impl fmt::Display for Fields {
+    fn fmt<W: fmt::Write>(&self, f: &mut fmt::Formatter<W>) -> fmt::Result {
+        let Answer {
+            verdict,
+            place,
+            which,
+            rounds,
+            winners,
+        } = self.0;
+        let code = verdict.code();
+        let start = verdict.start();
+        write!(
+            f,
+            "code {code} place {place} which {which} rounds {rounds} winners {winners} start {start}"
+        )
+    }
 }
 
-// Ends a line.
-pub fn end(rt: &impl Print) -> io::Result<()> {
-    println!(rt)
+// How one position stands to another, in a word.
+pub fn word(comparison: Comparison) -> &'static str {
+    match comparison {
+        Comparison::Same => "same",
+        Comparison::Below => "below",
+        Comparison::Above => "above",
+        Comparison::Neither => "neither",
+    }
 }
 
 // How many rows a controller has: one for each winner and input.
-pub fn rows(winners: usize, inputs: usize) -> usize {
-    if 256 < winners {
-        return 0;
-    }
-    if 8 < inputs {
+pub fn rows(winners: usize, inputs: usize) -> usize
+    ensures { result ≤ 2048 }
+{
+    if 256 < winners || 8 < inputs {
         return 0;
     }
     winners * inputs
 }
 
-// The first rows or records, so many of them, which are four bytes each, as lines of four numbers.
-pub fn fours(rt: &impl Print, bytes: &[u8], count: usize) -> io::Result<()> {
-    let mut left = count;
-    let mut at = 0;
-    while 0 < left {
-        if bytes.len() - at < 4 {
+// Bytes as text: their numbers, with blanks between them.
+#[derive(Drop)]
+struct Line<'a>(&'a [u8]);
+
+impl fmt::Display for Line<'_> {
+    fn fmt<W: fmt::Write>(&self, f: &mut fmt::Formatter<W>) -> fmt::Result {
+        let Some((first, others)) = self.0.split_first() else {
             return Ok(());
+        };
+        write!(f, "{first}")?;
+        for other in others {
+            write!(f, " {other}")?;
         }
-        field(rt, b"", wide(bytes[at]))?;
-        field(rt, b" ", wide(bytes[at + 1]))?;
-        field(rt, b" ", wide(bytes[at + 2]))?;
-        field(rt, b" ", wide(bytes[at + 3]))?;
-        end(rt)?;
-        at += 4;
-        left -= 1;
+        Ok(())
     }
-    Ok(())
 }
 
-fn wide(byte: u8) -> usize {
-    byte as usize
+// The first bytes as numbers: so many lines, each of so many bytes, or fewer if the bytes end.
+pub fn numbers<const WIDTH: usize>(rt: &impl Print, bytes: &[u8], count: usize) -> io::Result<()>
+    requires { 0 < WIDTH }
+{
+    for line in bytes.chunks_exact(WIDTH).take(count) {
+        rt.println(Line(line))?;
+    }
+    Ok(())
 }

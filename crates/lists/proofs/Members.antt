@@ -1,69 +1,61 @@
--- The first n positions of an array: what one more or fewer of them is, and what a store changes. Each from the library's laws of take,
--- drop and set. Assumes nothing.
-use mathlib.Core.Path.{◌≡◌, sym, ap, ◌∙◌}
+-- Positions in a list of words: how many there are, that each has eight counts, what stands at a place, and what
+-- one more of them is. Positions are the words' counts, so each law is the library's law of map, take, drop or set. Assumes nothing.
+use mathlib.Core.Path.{◌≡◌, refl, sym, ap, ◌∙◌}
 use mathlib.Core.List.Memᴰ
-use mathlib.Core.List.{List, [], ◌∷◌, ◌++◌, map, map-append, Memᴰ}
-use Prim.Native.Nat.{ℕ, suc, ◌+◌, ◌-◌, ◌≤◌, ◌<◌}
+use mathlib.Core.List.{List, [], ◌∷◌, ◌++◌, map, map-append, reverse, reverse-cons, Memᴰ}
+use Prim.Native.Nat.{ℕ, suc, ◌+◌, ◌<◌}
 use native.Mathlib.Numerals.{add-one}
-use native.Mathlib.Omega.{arith}
-use lib.ListN.{length, take, drop, get_or, set, length-map, length-take, get_or-map}
-use lib.Seq.{take-suc, take-take, take-length, split_at, get_or-take, length-take-le, take-suc-set}
+use lib.ListN.{length, take, drop, get_or, set, length-map, get_or-map}
+use lib.Seq.{take-suc, drop-cons, split_at}
 use Rattle.meaning.specs.Counting.{Position}
 use Rattle.counts.specs.Words.{counts_in}
 use Rattle.counts.proofs.Bytes.{counts_in-length}
-use Rattle.lists.specs.Members.{members}
-use Rattle.lists.proofs.Insert.{map-take}
+use Rattle.lists.specs.Members.{positions}
 
 -- all positions of a list have n counts
 abbrev pub Sized : ℕ → List Position → Type 0
 Sized n Fs = (F : Position) → Memᴰ F Fs → length F ≡ n
 
-module _ (all : List ℕ) where
-  pub members-length : (n : ℕ) → n ≤ length all → length (members all n) ≡ n
-  unfolding members
-  members-length n h = length-map (take n all) counts_in ∙ length-take-le n all h
+pub positions-length : (set : List ℕ) → length (positions set) ≡ length set
+unfolding positions
+positions-length set = length-map set counts_in
 
-  pub members_wide : (n : ℕ) → Sized 8 (members all n)
-  unfolding members
-  members_wide n F m = let r = Memᴰ.of_map counts_in (take n all) m in rw (← r.2) (counts_in-length r.0)
+pub positions_wide : (set : List ℕ) → Sized 8 (positions set)
+unfolding positions
+positions_wide set F m = let r = Memᴰ.of_map counts_in set m in rw (← r.2) (counts_in-length r.0)
 
-  pub members-at : (i n : ℕ) → i < n → get_or (members all n) i (counts_in 0) ≡ counts_in (get_or all i 0)
-  unfolding members
-  members-at i n l = get_or-map counts_in (take n all) i 0 ∙ ap counts_in (get_or-take n all i 0 l)
+pub positions-at : (set : List ℕ) (i : ℕ) → get_or (positions set) i (counts_in 0) ≡ counts_in (get_or set i 0)
+unfolding positions
+positions-at set i = get_or-map counts_in set i 0
 
-  -- all of them
-  pub members-whole : members all (length all) ≡ map counts_in all
-  unfolding members
-  members-whole = rw (take-length all)
+-- one list after another, and one word more
+pub positions-append : (xs ys : List ℕ) → positions (xs ++ ys) ≡ positions xs ++ positions ys
+unfolding positions
+positions-append xs ys = map-append counts_in xs ys
 
-  -- those before a place
-  pub members-first : (i n : ℕ) → i ≤ n → members all i ≡ take i (members all n)
-  unfolding members
-  members-first i n l = ap (map counts_in) (sym (take-take i n all l)) ∙ map-take counts_in i (take n all)
+pub positions-more : (xs : List ℕ) (x : ℕ) → positions (xs ++ x ∷ []) ≡ positions xs ++ counts_in x ∷ []
+unfolding positions
+positions-more xs x = map-append counts_in xs (x ∷ [])
 
-  -- one more
-  pub members-more : (i : ℕ) → i < length all → members all (i + 1) ≡ members all i ++ counts_in (get_or all i 0) ∷ []
-  unfolding members
-  members-more i h = rw (add-one i, take-suc all i 0 h) (map-append counts_in (take i all) (get_or all i 0 ∷ []))
+-- words turned round
+pub positions-reverse : (set : List ℕ) → positions (reverse set) ≡ reverse (positions set)
+unfolding positions
+positions-reverse [] = refl
+positions-reverse (x ∷ set) =
+    rw (reverse-cons x set, map-append counts_in (reverse set) (x ∷ []), positions-reverse set)
+    (sym (reverse-cons (counts_in x) (map counts_in set)))
 
-  -- the last
-  pub members-last : (i : ℕ) → 0 < i → i ≤ length all → members all i ≡ members all (i - 1) ++ counts_in (get_or all (i - 1) 0) ∷ []
-  members-last i l h =
-      let e : i ≡ i - 1 + 1 = omega arith in
-      ap (members all) e ∙ members-more (i - 1) (omega arith)
+-- the words before a place, the word there, and those after it
+module _ (set : List ℕ) (i : ℕ) (h : i < length set) where
+  pub positions-next : positions (take (i + 1) set) ≡ positions (take i set) ++ counts_in (get_or set i 0) ∷ []
+  positions-next = rw (add-one i, take-suc set i 0 h) (positions-more (take i set) (get_or set i 0))
 
-  -- those after one of them
-  abbrev pub members-after : ℕ → ℕ → List Position
-  members-after i n = map counts_in (drop (suc i) (take n all))
+  pub positions-split : positions set ≡ positions (take i set) ++ counts_in (get_or set i 0) ∷ positions (drop (i + 1) set)
+  unfolding positions
+  positions-split =
+      ap (map counts_in) (split_at set i 0 h)
+      ∙ rw (add-one i) (map-append counts_in (take i set) (get_or set i 0 ∷ drop (suc i) set))
 
-  pub members-split : (i n : ℕ) → i < n → i < length all → members all n ≡ members all i ++ counts_in (get_or all i 0) ∷ members-after i n
-  unfolding members
-  members-split i n l h =
-      ap (map counts_in) (split_at (take n all) i 0 (omega (arith, length-take n all)))
-      ∙ rw (take-take i n all (omega arith), get_or-take n all i 0 l)
-      (map-append counts_in (take i all) (get_or all i 0 ∷ drop (suc i) (take n all)))
-
-  -- a store of the next
-  pub members_store : (i : ℕ) (w : ℕ) → i < length all → members (set all i w) (i + 1) ≡ members all i ++ counts_in w ∷ []
-  unfolding members
-  members_store i w h = rw (add-one i, take-suc-set all i w h) (map-append counts_in (take i all) (w ∷ []))
+  pub positions-from : positions (drop i set) ≡ counts_in (get_or set i 0) ∷ positions (drop (i + 1) set)
+  unfolding positions
+  positions-from = rw (add-one i, drop-cons set i 0 h)

@@ -20,14 +20,7 @@ pub fn has(mask: u8, q: usize) -> bool
 pub fn has_any(mask: u8, n: usize) -> bool
     ensures { result ≡ some n (bit mask) }
 {
-    let mut q = 0;
-    while q < n {
-        if has(mask, q) {
-            return true;
-        }
-        q += 1;
-    }
-    false
+    (0..n).any(|q| has(mask, q))
 }
 
 // A mask with one state more; past the eighth there is no bit to set.

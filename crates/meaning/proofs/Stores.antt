@@ -51,21 +51,3 @@ module _ (old : List ℕ) where
       let none : drop (length whole - at) left ≡ [] =
       drop_of_length-le left {i = length whole - at} (omega (arith, length-drop at whole)) in
       rw (none, front, p, all, rest, append-nil, length-append, append_assoc, drop-drop)
-
--- four stores more
-pub four_stored : (old new : List ℕ) (at a b c d : ℕ) → length new ≡ at → at + 4 ≤ length old
-    → set (set (set (set (written new old) at a) (at + 1) b) (at + 2) c) (at + 3) d ≡ written (new ++ a ∷ b ∷ c ∷ d ∷ []) old
-four_stored old new at a b c d e h =
-    ap (λ (l : List ℕ). set (set (set l (at + 1) b) (at + 2) c) (at + 3) d) (written_store old new at a e (omega arith))
-    ∙ ap (λ (l : List ℕ). set (set l (at + 2) c) (at + 3) d) (more (a ∷ []) (at + 1) b (omega arith) (omega arith))
-    ∙ ap (λ (l : List ℕ). set l (at + 3) d) (more (a ∷ b ∷ []) (at + 2) c (omega arith) (omega arith))
-    ∙ more (a ∷ b ∷ c ∷ []) (at + 3) d (omega arith) (omega arith)
-  where
-    more : (xs : List ℕ) (i x : ℕ) → length new + length xs ≡ i → i < length old
-        → set (written (new ++ xs) old) i x ≡ written (new ++ (xs ++ x ∷ [])) old
-    more xs i x p l = rw (← append_assoc new xs (x ∷ [])) (written_store old (new ++ xs) i x (length-append new xs ∙ p) l)
-
--- a row's four bytes
-pub row-stored : (old : List ℕ) (a b i n : ℕ) → 4 ≤ length old
-    → set (set (set (set old 0 a) 1 b) 2 i) 3 n ≡ written (a ∷ b ∷ i ∷ n ∷ []) old
-row-stored old a b i n h = four_stored old [] 0 a b i n refl h

@@ -1,10 +1,11 @@
 -- Document 01, "The numbered answers": each code's number, and for each call its whole outcome, the answer and every lent buffer's
 -- bytes afterwards.
-use Rattle.std.specs.Prelude.{cond, List, ℕ, length, ltb}
+use Rattle.std.specs.Prelude.{true, cond, List, ℕ, length, ltb, Result, Ok, Err}
 use Rattle.meaning.specs.declared.Answer.{Answer}
 use Rattle.meaning.specs.declared.Verdict.{Verdict}
 use Rattle.meaning.specs.declared.Verdict.TheVariants.{Realizable, Unrealizable, Refused}
 use Rattle.meaning.specs.declared.Refusal.{Refusal}
+use Rattle.meaning.specs.declared.Fault.{Fault}
 use Rattle.meaning.specs.declared.Refusal.TheVariants.{Bound, Room, Length, Record as Recorded, Order, States, Start, Edge, Gap}
 use Rattle.meaning.specs.declared.Refusal.TheVariants.{Full, Nothing, Letters, Size, Rows}
 use Rattle.meaning.specs.Lists.{written}
@@ -13,7 +14,7 @@ use Rattle.meaning.specs.Counting.{Position}
 use Rattle.meaning.specs.Rounds.{Set, all_safe, rounds, winning}
 use Rattle.meaning.specs.Written.{winners, winners_bytes, start_state, row_bytes, rows_from}
 use Rattle.meaning.specs.Join.{joined_table, joined_bytes, pairs}
-use Rattle.meaning.specs.Checks.{Check, judge, stage_checks, solve_checks, join_checks, parts_checks}
+use Rattle.meaning.specs.Checks.{Check, check, judge, stage_checks, solve_checks, join_checks, parts_checks}
 
 -- the table's column "Code": 2 to 14 for the refusals, and 15 of document 02
 abbrev pub number_of : Refusal → ℕ
@@ -47,6 +48,15 @@ start_of (Refused r) = 0
 -- "Refusals have rounds, winners and start 0"
 unfoldable pub refused : Check → Answer
 refused c = record { verdict = Refused c.refusal; place = c.fault_at; which = c.table; rounds = 0; winners = 0 }
+
+-- a check that fails, as it is passed on in code
+abbrev pub fault_of : Check → Fault
+fault_of c = record { refusal = c.refusal; place = c.fault_at; which = c.table }
+
+-- an answer, or the refusal's where a check fails
+abbrev pub told : Result Answer Fault → Answer
+told (Ok answer) = answer
+told (Err fault) = refused (check fault.refusal fault.place fault.which true)
 
 -- What solving leaves: the answer, and the bytes of the winners' and the controller's buffers afterwards
 pub record Solved : Type 0 where

@@ -5,11 +5,11 @@
 ghost use Rattle.std.specs.Prelude.{◌≡◌, true};
 ghost use Rattle.meaning.specs.Checks.{check, wrong_size};
 ghost use Rattle.meaning.specs.Compared.{at_most};
-ghost use Rattle.meaning.specs.Answers.{number_of, code_of, start_of, refused as refused_by};
+ghost use Rattle.meaning.specs.Answers.{number_of, code_of, start_of, refused, fault_of};
 
 // "Every answer carries a code, a place, which .., rounds, number of winners, start. The verdict
 // holds the controller's start, unrealizable, or the refusal's own case"
-#[derive(Clone, Copy)]
+#[derive(Clone, Copy, Debug, PartialEq, Eq)]
 pub struct Answer {
     pub verdict: Verdict,
     pub place: usize,
@@ -18,7 +18,7 @@ pub struct Answer {
     pub winners: usize,
 }
 
-#[derive(Clone, Copy)]
+#[derive(Clone, Copy, Debug, PartialEq, Eq)]
 pub enum Verdict {
     Realizable(usize),
     Unrealizable,
@@ -26,9 +26,9 @@ pub enum Verdict {
 }
 
 // The numbered reasons, from 2 on, in the order of their numbers.
-#[derive(Clone, Copy)]
+#[derive(Clone, Copy, Debug, PartialEq, Eq)]
 pub enum Refusal {
-    Bound,
+    Bound = 2,
     Room,
     Length,
     Record,
@@ -45,7 +45,7 @@ pub enum Refusal {
 }
 
 // How one position stands to another, of the same side.
-#[derive(Clone, Copy)]
+#[derive(Clone, Copy, Debug, PartialEq, Eq)]
 pub enum Comparison {
     Same,
     Below,
@@ -53,72 +53,88 @@ pub enum Comparison {
     Neither,
 }
 
-// The number of a refusal in the documents' table.
-pub fn number(refusal: Refusal) -> usize
-    ensures { result ≡ number_of refusal }
-{
-    match refusal {
-        Refusal::Bound => 2,
-        Refusal::Room => 3,
-        Refusal::Length => 4,
-        Refusal::Record => 5,
-        Refusal::Order => 6,
-        Refusal::States => 7,
-        Refusal::Start => 8,
-        Refusal::Edge => 9,
-        Refusal::Gap => 10,
-        Refusal::Full => 11,
-        Refusal::Nothing => 12,
-        Refusal::Letters => 13,
-        Refusal::Size => 14,
-        Refusal::Rows => 15,
+// A check that fails: its refusal, its place, and which: 1 or 2 for a fault of that table or for FULL while it is solved alone.
+#[derive(Clone, Copy, Debug, PartialEq, Eq)]
+pub struct Fault {
+    pub refusal: Refusal,
+    pub place: usize,
+    pub which: usize,
+}
+
+impl Refusal {
+    // The number in the documents' table.
+    pub fn number(self) -> usize
+        ensures { result ≡ number_of self }
+    {
+        self as usize
+    }
+
+    // The fault of a check of this refusal: its place, and which 0.
+    pub fn at(self, place: usize) -> Fault
+        ensures { result ≡ fault_of (check self place 0 true) }
+    {
+        Fault {
+            refusal: self,
+            place,
+            which: 0,
+        }
     }
 }
 
-// The code of an answer.
-pub fn code(verdict: Verdict) -> usize
-    ensures { result ≡ code_of verdict }
-{
-    match verdict {
-        Verdict::Realizable(_) => 0,
-        Verdict::Unrealizable => 1,
-        Verdict::Refused(refusal) => number(refusal),
+impl Fault {
+    // The same fault, told of table 1 or 2.
+    pub fn of_table(self, which: usize) -> Fault
+        ensures { result ≡ fault_of (check self.refusal self.place which true) }
+    {
+        Fault { which, ..self }
     }
 }
 
-// The start of an answer: 0 unless the table is realizable.
-pub fn start(verdict: Verdict) -> usize
-    ensures { result ≡ start_of verdict }
-{
-    match verdict {
-        Verdict::Realizable(at) => at,
-        Verdict::Unrealizable => 0,
-        Verdict::Refused(_) => 0,
+impl Verdict {
+    // The code of an answer.
+    pub fn code(self) -> usize
+        ensures { result ≡ code_of self }
+    {
+        match self {
+            Verdict::Realizable(_) => 0,
+            Verdict::Unrealizable => 1,
+            Verdict::Refused(refusal) => refusal.number(),
+        }
+    }
+
+    // The start of an answer: 0 unless the table is realizable.
+    pub fn start(self) -> usize
+        ensures { result ≡ start_of self }
+    {
+        match self {
+            Verdict::Realizable(at) => at,
+            Verdict::Unrealizable | Verdict::Refused(_) => 0,
+        }
+    }
+}
+
+impl Comparison {
+    // Whether each count of the one is at most the other's.
+    pub fn at_most(self) -> bool
+        ensures { result ≡ at_most self }
+    {
+        matches!(self, Comparison::Same | Comparison::Below)
     }
 }
 
 // A refusal's answer: rounds, winners and start are 0.
-pub fn refused(refusal: Refusal, place: usize, which: usize) -> Answer
-    ensures { result ≡ refused_by (check refusal place which true) }
-{
-    Answer {
-        verdict: Verdict::Refused(refusal),
-        place,
-        which,
-        rounds: 0,
-        winners: 0,
-    }
-}
+impl From<Fault> for Answer {
+    ghost from_gives = { λ fault answer. answer ≡ refused (check fault.refusal fault.place fault.which true) };
 
-// Whether a comparison says that each count of the one is at most the other's.
-pub fn at_most(comparison: Comparison) -> bool
-    ensures { result ≡ at_most comparison }
-{
-    match comparison {
-        Comparison::Same => true,
-        Comparison::Below => true,
-        Comparison::Above => false,
-        Comparison::Neither => false,
+    #[tactic(auto, unfolding(crate::specs::Answers::refused))]
+    fn from(fault: Fault) -> Answer {
+        Answer {
+            verdict: Verdict::Refused(fault.refusal),
+            place: fault.place,
+            which: fault.which,
+            rounds: 0,
+            winners: 0,
+        }
     }
 }
 

@@ -1,16 +1,13 @@
 -- The rounds in code: the set that a list covers, and what a run over the letters, a round, and the loop of rounds answer.
-use Rattle.std.specs.Prelude.{◌≡◌, false, cond, ◌&&◌, List, map, ℕ, suc, ◌≤◌, ◌<◌, max, eqb, ltb, length}
+use Rattle.std.specs.Prelude.{◌≡◌, false, cond, ◌&&◌, List, map, ℕ, suc, ◌≤◌, ◌<◌, max, eqb, ltb, length, Result, Ok, Err}
 use Rattle.meaning.specs.Lists.{largest}
 use Rattle.meaning.specs.Table.{Table, Small}
 use Rattle.meaning.specs.Counting.{Position, covered}
 use Rattle.meaning.specs.Rounds.{Set, rounds, full, FirstSet}
 use Rattle.meaning.specs.Written.{position_bytes, winners}
-use Rattle.lists.specs.Members.{members}
-use Rattle.tops.specs.declared.Found.{Found}
-use Rattle.tops.specs.declared.Found.TheVariants.{Number, Full}
+use Rattle.lists.specs.Members.{positions}
+use Rattle.tops.specs.declared.Full.{Full}
 use Rattle.sets.specs.Engine.{list_a, list_b, StandsFor}
-use Rattle.rounds.specs.declared.Settled.{Settled}
-use Rattle.rounds.specs.declared.Settled.TheVariants.{After, Full as FullAfter}
 
 -- "Each set contains everything below its members, so it is fixed by its maximal members": the positions of n states that a list covers,
 -- whose members have eight counts
@@ -36,12 +33,12 @@ widest_b K t vs = largest (suc t.outputs) (λ k. length (list_b K t vs k))
 unfoldable pub widest_of : ℕ → Table → List Position → ℕ
 widest_of K t ws = max (widest_a K t ws) (widest_b K t (list_a K t ws t.inputs))
 
--- the answer of a run over lists of which the widest has so many: how many the last has, which the array holds, or that there is no room
-pub record HoldsLast (room widest : ℕ) (last : List Position) (out : List ℕ) (found : Found) : Type 0 where
-  pub answer : found ≡ cond (ltb room widest) Full (Number (length last))
-  pub held : widest ≤ room → members out (length last) ≡ last
+-- the answer of a run over lists of which the widest has so many: FULL if there is no room for that one, and else the words hold the last
+pub record HoldsLast (room widest : ℕ) (last : List Position) (out : List ℕ) (found : Result (Unit {0}) Full) : Type 0 where
+  pub answer : found ≡ cond (ltb room widest) (Err (record {})) (Ok tt)
+  pub held : widest ≤ room → positions out ≡ last
 
--- the answer of the rounds from a first set: FULL, or how many rounds, and how many winners, which the array holds
-pub record Settles (K : ℕ) (t : Table) (X : Set) (room : ℕ) (out : List ℕ) (settled : Settled) : Type 0 where
-  pub answer : settled ≡ cond (full K t X room) FullAfter (After (rounds K t X) (length (winners K t X)))
-  pub held : full K t X room ≡ false → members out (length (winners K t X)) ≡ map position_bytes (winners K t X)
+-- the answer of the rounds from a first set: FULL, or how many rounds, and the words hold the winners
+pub record Settles (K : ℕ) (t : Table) (X : Set) (room : ℕ) (out : List ℕ) (settled : Result ℕ Full) : Type 0 where
+  pub answer : settled ≡ cond (full K t X room) (Err (record {})) (Ok (rounds K t X))
+  pub held : full K t X room ≡ false → positions out ≡ map position_bytes (winners K t X)

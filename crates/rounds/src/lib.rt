@@ -6,121 +6,92 @@ ghost use Rattle.std.specs.Prelude.{◌≤◌, ◌<◌, length};
 ghost use Rattle.meaning.specs.Rounds.{all_safe};
 ghost use Rattle.meaning.specs.Table.{Small};
 ghost use Rattle.table.specs.Packed.{table_in};
-ghost use Rattle.lists.specs.Members.{members};
+ghost use Rattle.lists.specs.Members.{positions};
 ghost use Rattle.sets.specs.Engine.{list_a, list_b, next_list};
 ghost use Rattle.rounds.specs.Rounds.{covered_by, FirstList, widest_a, widest_b, widest_of, HoldsLast, Settles};
 
+use arrayvec::ArrayVec;
 use counts::position;
-use lists::words;
+use lists::{List, words};
 use table::Table;
-use tops::Found;
-
-// How the rounds end: FULL, or after so many rounds with so many winners.
-#[derive(Clone, Copy)]
-pub enum Settled {
-    Full,
-    After(usize, usize),
-}
+use tops::Full;
 
 // A(r, all inputs) from W(r): all safe positions, cut by each input.
-fn all_inputs(table: Table, k: usize, room: usize, w: &[u64], wn: usize, a: &mut [u64]) -> Found
-    requires { (k ≤ 7) × (wn ≤ 256) × (wn ≤ length w.now) × (1 ≤ room) × (room ≤ 256) × (room ≤ length a.old) }
-    ensures { HoldsLast room (widest_a k (table_in table) (members w.now wn))
-        (list_a k (table_in table) (members w.now wn) (table_in table).inputs) a.new result }
+fn all_inputs(table: Table, k: usize, room: usize, w: &[u64], a: &mut List) -> Result<(), Full>
+    requires { (k ≤ 7) × (length w.now ≤ 256) × (1 ≤ room) × (room ≤ 256) }
+    ensures { HoldsLast room (widest_a k (table_in table) (positions w.now))
+        (list_a k (table_in table) (positions w.now) (table_in table).inputs) a.new.items result }
 {
-    a[0] = position::brim(k, table.worlds);
-    let mut n = 1;
-    let mut input = 0;
-    while input < table.inputs {
-        let half = steps::on_input(table, input);
-        input += 1;
-        let found = sets::cut(w, wn, half, k, a, n, room);
-        let Found::Number(left) = found else {
-            return Found::Full;
-        };
-        n = left;
+    a.clear();
+    a.push(position::brim(k, table.worlds));
+    for input in 0..table.inputs {
+        sets::cut(w, steps::on_input(table, input), k, a, room)?;
     }
-    Found::Number(n)
+    Ok(())
 }
 
 // B(r, all outputs) from A(r, all inputs): no position, widened by each output.
-fn all_outputs(table: Table, k: usize, room: usize, v: &[u64], vn: usize, b: &mut [u64]) -> Found
-    requires { (k ≤ 7) × (vn ≤ 256) × (vn ≤ length v.now) × (room ≤ 256) × (room ≤ length b.old) }
-    ensures { HoldsLast room (widest_b k (table_in table) (members v.now vn))
-        (list_b k (table_in table) (members v.now vn) (table_in table).outputs) b.new result }
+fn all_outputs(table: Table, k: usize, room: usize, v: &[u64], b: &mut List) -> Result<(), Full>
+    requires { (k ≤ 7) × (length v.now ≤ 256) × (room ≤ 256) }
+    ensures { HoldsLast room (widest_b k (table_in table) (positions v.now))
+        (list_b k (table_in table) (positions v.now) (table_in table).outputs) b.new.items result }
 {
-    let mut n = 0;
-    let mut output = 0;
-    while output < table.outputs {
-        let half = steps::on_output(table, output);
-        output += 1;
-        let found = sets::widen(v, vn, half, k, b, n, room);
-        let Found::Number(more) = found else {
-            return Found::Full;
-        };
-        n = more;
+    b.clear();
+    for output in 0..table.outputs {
+        sets::widen(v, steps::on_output(table, output), k, b, room)?;
     }
-    Found::Number(n)
+    Ok(())
 }
 
 // W(r + 1) from W(r).
-fn next_round(table: Table, k: usize, room: usize, w: &[u64], wn: usize, next: &mut [u64]) -> Found
-    requires { (k ≤ 7) × (wn ≤ 256) × (wn ≤ length w.now) × (1 ≤ room) × (room ≤ 256) × (room ≤ length next.old) }
-    ensures { HoldsLast room (widest_of k (table_in table) (members w.now wn))
-        (next_list k (table_in table) (members w.now wn)) next.new result }
+fn next_round(table: Table, k: usize, room: usize, w: &[u64], next: &mut List) -> Result<(), Full>
+    requires { (k ≤ 7) × (length w.now ≤ 256) × (1 ≤ room) × (room ≤ 256) }
+    ensures { HoldsLast room (widest_of k (table_in table) (positions w.now))
+        (next_list k (table_in table) (positions w.now)) next.new.items result }
 {
-    let mut a = [0u64; 256];
-    let found = all_inputs(table, k, room, w, wn, &mut a);
-    let Found::Number(an) = found else {
-        return Found::Full;
-    };
-    all_outputs(table, k, room, &a, an, next)
+    let mut a = List::new();
+    all_inputs(table, k, room, w, &mut a)?;
+    all_outputs(table, k, room, &a, next)
 }
 
-// The rounds from the set that the first n of a list cover: "the smallest r with W(r) = W(r + 1)", and
-// the winners.
-pub fn settle(
+// The rounds from the set that a list covers: "the smallest r with W(r) = W(r + 1)"; the list of winners is left in `out`.
+pub fn settle<const N: usize>(
     table: Table,
     k: usize,
     room: usize,
     first: &[u64],
-    n: usize,
-    out: &mut [u64],
-) -> Settled
-    requires { (k ≤ 7) × (n ≤ length first.now) × (1 ≤ room) × (room ≤ 256) × (room ≤ length out.old)
-        × FirstList k (table_in table) (members first.now n) }
-    ensures { Settles k (table_in table) (covered_by (table_in table).controllers (members first.now n)) room
-        out.new result }
+    out: &mut ArrayVec<u64, N>,
+) -> Result<usize, Full>
+    requires { (k ≤ 7) × (1 ≤ room) × (room ≤ 256) × FirstList k (table_in table) (positions first.now) × (room ≤ N) }
+    ensures { Settles k (table_in table) (covered_by (table_in table).controllers (positions first.now)) room out.new.items result }
 {
-    if room < n {
-        return Settled::Full;
+    if room < first.len() {
+        return Err(Full);
     }
-    let mut w = [0u64; 256];
-    words::copy(first, n, &mut w);
-    let mut wn = n;
+    let mut w = List::try_from(first).unwrap();
     let mut rounds = 0;
     let settled = loop {
-        let mut next = [0u64; 256];
-        let found = next_round(table, k, room, &w, wn, &mut next);
-        let Found::Number(left) = found else {
-            return Settled::Full;
-        };
-        if words::same(&w, wn, &next, left) {
+        let mut next = List::new();
+        next_round(table, k, room, &w, &mut next)?;
+        if words::same(&w, &next) {
             break w;
         }
         w = next;
-        wn = left;
         rounds += 1;
     };
-    words::copy(&settled, wn, out);
-    Settled::After(rounds, wn)
+    words::copy(&settled, out);
+    Ok(rounds)
 }
 
 // The rounds from W(0) as all safe positions.
-pub fn settle_all(table: Table, k: usize, room: usize, out: &mut [u64]) -> Settled
-    requires { (k ≤ 7) × (1 ≤ room) × (room ≤ 256) × (room ≤ length out.old) × Small (table_in table) × (0 < (table_in table).outputs) }
-    ensures { Settles k (table_in table) (all_safe k (table_in table).controllers) room out.new result }
+pub fn settle_all<const N: usize>(
+    table: Table,
+    k: usize,
+    room: usize,
+    out: &mut ArrayVec<u64, N>,
+) -> Result<usize, Full>
+    requires { (k ≤ 7) × (1 ≤ room) × (room ≤ 256) × Small (table_in table) × (0 < (table_in table).outputs) × (room ≤ N) }
+    ensures { Settles k (table_in table) (all_safe k (table_in table).controllers) room out.new.items result }
 {
-    let first = [position::brim(k, table.controllers); 1];
-    settle(table, k, room, &first, 1, out)
+    settle(table, k, room, &[position::brim(k, table.controllers)], out)
 }

@@ -1,6 +1,7 @@
 -- An array of places, filled from the last row back to row i: for the state of each row from i on it has a row of that state, from i on,
 -- and not after that row. When all rows are seen it has the first row of each state. Assumes nothing.
 use mathlib.Core.Path.{◌≡◌, refl, sym, ap, ◌∙◌}
+use mathlib.Core.Bool.{true}
 use mathlib.Core.List.{List}
 use Prim.Native.Nat.{ℕ, suc, ◌≤◌, ◌<◌}
 use native.Mathlib.Nat.{le_antisymm}
@@ -10,6 +11,7 @@ use borrow.Author.Tests.{eqb-true, eq-eqb}
 use lib.ListN.{length, get_or, set, length-set}
 use Rattle.meaning.specs.Written.{Row}
 use Rattle.meaning.specs.Play.{rows_in, row}
+use Rattle.meaning.specs.Controller.{has_rows}
 use Rattle.meaning.proofs.Lists.{place-holds, place_found}
 use Rattle.meaning.proofs.Lookups.{no_row}
 use Rattle.meaning.proofs.Formed.{formed, is_of, rows_of, has-place}
@@ -62,9 +64,9 @@ module _ (rows : List Row) where
       le_antisymm at.until found
 
 -- where a state's rows begin, and that it is no large number
-pub ready_place : {bytes places : List ℕ} {s : ℕ} → Ready bytes places s → s < 256
+pub ready_place : {bytes places : List ℕ} {s : ℕ} → Ready bytes places → has_rows (rows_in bytes) s ≡ true → s < 256
     → (get_or places s 0 ≡ rows_of (rows_in bytes) s) × (get_or places s 0 < 2048)
-ready_place {bytes} {places} {s} ready low =
+ready_place {bytes} {places} {s} ready has low =
     let f = formed bytes ready.formed in
-    let at = ready.placed s low ready.has in
-    (at, omega (arith, has-place (rows_in bytes) s ready.has, f.few))
+    let at = ready.placed s low has in
+    (at, omega (arith, has-place (rows_in bytes) s has, f.few))

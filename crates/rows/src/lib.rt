@@ -2,13 +2,16 @@
 // they have, a state's output and its next state for an input. Nothing of the game.
 #![tactic(auto)]
 
-ghost use Rattle.std.specs.Prelude.{◌≡◌, suc, ◌≤◌, ◌<◌, ◌-◌, length};
+ghost use Rattle.std.specs.Prelude.{◌≡◌, true, List, ℕ, suc, ◌≤◌, ◌<◌, ◌-◌, length, map};
 ghost use Rattle.meaning.specs.Lists.{each, every};
 ghost use Rattle.meaning.specs.Play.{rows_in, row as row_at, row_output, row_next};
-ghost use Rattle.meaning.specs.Controller.{in_order, input_goes_on, output_stays, goes_on, leads_on, inputs_in, states_in, well_formed};
-ghost use Rattle.rows.specs.Placed.{row_of, Marked, Placed, Ready};
+ghost use Rattle.meaning.specs.Controller.{in_order, input_goes_on, output_stays, goes_on, has_rows, leads_on, well_formed};
+ghost use Rattle.meaning.specs.Controller.{inputs_in, states_in, first_state};
+ghost use Rattle.rows.specs.Placed.{row_of, four, Marked, Placed, Ready};
 
-#[derive(Clone, Copy)]
+use std::marker::Model;
+
+#[derive(Clone, Copy, Default)]
 pub struct Row {
     pub state: u8,
     pub output: u8,
@@ -16,42 +19,54 @@ pub struct Row {
     pub next: u8,
 }
 
+impl From<[u8; 4]> for Row {
+    ghost from_gives = { λ bytes row. row_of row ≡ four bytes };
+
+    fn from(bytes: [u8; 4]) -> Row {
+        let [state, output, input, next] = bytes;
+        Row {
+            state,
+            output,
+            input,
+            next,
+        }
+    }
+}
+
+// The rows that bytes hold, four bytes each.
+pub fn fours(rows: &[u8]) -> &[[u8; 4]]
+    ensures { map four result.now ≡ rows_in rows.now }
+{
+    rows.as_chunks().0
+}
+
 // Row number i of the bytes; past the last whole row, four zeros.
 pub fn at(rows: &[u8], i: usize) -> Row
     ensures { row_of result ≡ row_at (rows_in rows.now) i }
 {
-    if rows.len() / 4 <= i {
-        return Row {
-            state: 0,
-            output: 0,
-            input: 0,
-            next: 0,
-        };
-    }
-    let start = 4 * i;
-    Row {
-        state: rows[start],
-        output: rows[start + 1],
-        input: rows[start + 2],
-        next: rows[start + 3],
-    }
+    fours(rows)
+        .get(i)
+        .copied()
+        .map(Row::from)
+        .unwrap_or_default()
 }
 
 // The last row; with no whole row, four zeros.
 fn last(rows: &[u8]) -> Row
     ensures { row_of result ≡ row_at (rows_in rows.now) (length (rows_in rows.now) - 1) }
 {
-    let number = rows.len() / 4;
-    if number == 0 {
-        return at(rows, 0);
-    }
-    at(rows, number - 1)
+    fours(rows)
+        .last()
+        .copied()
+        .map(Row::from)
+        .unwrap_or_default()
 }
 
 // The longest rows.
 const MOST_BYTES: usize = 8192;
 
 // 15: whether rows are well formed.
+#[tactic(auto, unfolding(meaning::specs::Controller::well_formed))]
 pub fn well_formed(rows: &[u8]) -> bool
     ensures { result ≡ well_formed rows.now }
 {
@@ -60,13 +75,7 @@ pub fn well_formed(rows: &[u8]) -> bool
     }
     let first = at(rows, 0);
     let last = last(rows);
-    if first.input != 0 {
-        return false;
-    }
-    if 7 < last.input {
-        return false;
-    }
-    go_on(rows, first.state, last.input) && lead_on(rows)
+    first.input == 0 && last.input <= 7 && go_on(rows, first.state, last.input) && lead_on(rows)
 }
 
 // Whether each row goes on from the one before it.
@@ -74,30 +83,19 @@ fn go_on(rows: &[u8], first: u8, last: u8) -> bool
     ensures { result ≡ each (length (rows_in rows.now) - 1)
         (λ i. goes_on first last (row_at (rows_in rows.now) i) (row_at (rows_in rows.now) (suc i))) }
 {
-    let mut i = 0;
-    while i + 1 < rows.len() / 4 {
-        if !goes_on(at(rows, i), at(rows, i + 1), first, last) {
-            return false;
-        }
-        i += 1;
-    }
-    true
+    (1..rows.len() / 4).all(|i| goes_on(at(rows, i - 1), at(rows, i), first, last))
 }
 
 // Whether the row b goes on from the row a.
+#[tactic(auto, unfolding(meaning::specs::Controller::goes_on))]
 fn goes_on(a: Row, b: Row, first: u8, last: u8) -> bool
     ensures { result ≡ goes_on first last (row_of a) (row_of b) }
 {
-    if !in_order(a, b, first) {
-        return false;
-    }
-    if !input_goes_on(a, b, last) {
-        return false;
-    }
-    output_stays(a, b)
+    in_order(a, b, first) && input_goes_on(a, b, last) && output_stays(a, b)
 }
 
 // The first state's rows come first and the others ascend.
+#[tactic(auto, unfolding(meaning::specs::Controller::in_order))]
 fn in_order(a: Row, b: Row, first: u8) -> bool
     ensures { result ≡ in_order first (row_of a) (row_of b) }
 {
@@ -111,6 +109,7 @@ fn in_order(a: Row, b: Row, first: u8) -> bool
 }
 
 // Each state has the inputs 0 up to the last, once each in order.
+#[tactic(auto, unfolding(meaning::specs::Controller::input_goes_on))]
 fn input_goes_on(a: Row, b: Row, last: u8) -> bool
     ensures { result ≡ input_goes_on last (row_of a) (row_of b) }
 {
@@ -121,6 +120,7 @@ fn input_goes_on(a: Row, b: Row, last: u8) -> bool
 }
 
 // A state has one output.
+#[tactic(auto, unfolding(meaning::specs::Controller::output_stays))]
 fn output_stays(a: Row, b: Row) -> bool
     ensures { result ≡ output_stays (row_of a) (row_of b) }
 {
@@ -132,18 +132,7 @@ fn lead_on(rows: &[u8]) -> bool
     ensures { result ≡ every (leads_on (rows_in rows.now)) (rows_in rows.now) }
 {
     let named = named(rows);
-    let mut i = 0;
-    while i < rows.len() / 4 {
-        let row = at(rows, i);
-        if 7 < row.output {
-            return false;
-        }
-        if !named[row.next as usize] {
-            return false;
-        }
-        i += 1;
-    }
-    true
+    fours(rows).iter().all(|&[_, output, _, next]| output <= 7 && named[next as usize])
 }
 
 // Which states have rows.
@@ -151,11 +140,8 @@ fn named(rows: &[u8]) -> [bool; 256]
     ensures { Marked (rows_in rows.now) result }
 {
     let mut named = [false; 256];
-    let mut i = 0;
-    while i < rows.len() / 4 {
-        let row = at(rows, i);
-        named[row.state as usize] = true;
-        i += 1;
+    for &[state, ..] in fours(rows) {
+        named[state as usize] = true;
     }
     named
 }
@@ -171,47 +157,81 @@ pub fn inputs(rows: &[u8]) -> usize
 pub fn states(rows: &[u8]) -> usize
     ensures { result ≡ states_in (rows_in rows.now) }
 {
-    let mut count = 0;
-    let mut i = 0;
-    while i < rows.len() / 4 {
-        let row = at(rows, i);
-        if row.input == 0 {
-            count += 1;
-        }
-        i += 1;
-    }
-    count
+    fours(rows)
+        .iter()
+        .filter(|&&[_, _, input, _]| input == 0)
+        .count()
 }
 
 // Where each state's rows begin.
-pub fn places(rows: &[u8]) -> [u16; 256]
+fn places(rows: &[u8]) -> [u16; 256]
     requires { length (rows_in rows.now) ≤ 2048 }
     ensures { Placed (rows_in rows.now) result }
 {
     let mut places = [0u16; 256];
-    let mut i = rows.len() / 4;
-    while 0 < i {
-        i -= 1;
-        let row = at(rows, i);
-        places[row.state as usize] = i as u16;
+    for i in (0..rows.len() / 4).rev() {
+        places[at(rows, i).state as usize] = i as u16;
     }
     places
 }
 
-// A state's output.
-pub fn output(rows: &[u8], places: &[u16; 256], state: u8) -> u8
-    requires { Ready rows.now places.now state }
-    ensures { result ≡ row_output (rows_in rows.now) state }
-{
-    let place = places[state as usize] as usize;
-    at(rows, place).output
+// Well-formed rows, and where each state's begin.
+#[derive(Drop)]
+pub struct Controller<'a> {
+    rows: &'a [u8],
+    places: [u16; 256],
 }
 
-// A state's next state for an input.
-pub fn next(rows: &[u8], places: &[u16; 256], state: u8, input: usize) -> u8
-    requires { Ready rows.now places.now state × (input < inputs_in (rows_in rows.now)) }
-    ensures { result ≡ row_next (rows_in rows.now) state input }
-{
-    let place = places[state as usize] as usize;
-    at(rows, place + input).next
+// It is the bytes of its rows.
+impl<'a> Model for Controller<'a> {
+    ghost Value = { List ℕ };
+
+    ghost view = { λ c. c.rows.now };
+
+    ghost invariant = { λ c. Ready c.rows.now c.places };
+}
+
+impl<'a> Controller<'a> {
+    // The controller that rows state.
+    pub fn new(rows: &'a [u8]) -> Controller<'a>
+        requires { well_formed rows.now ≡ true }
+        ensures { result ≡ rows.now }
+    {
+        Controller {
+            rows,
+            places: places(rows),
+        }
+    }
+
+    // The state that it starts in: that of the first row.
+    pub fn first(&self) -> u8
+        ensures { result ≡ first_state (rows_in self.now) }
+    {
+        at(self.rows, 0).state
+    }
+
+    // How many inputs it has.
+    pub fn inputs(&self) -> usize
+        ensures { result ≡ inputs_in (rows_in self.now) }
+    {
+        inputs(self.rows)
+    }
+
+    // A state's output.
+    pub fn output(&self, state: u8) -> u8
+        requires { has_rows (rows_in self.now) state ≡ true }
+        ensures { result ≡ row_output (rows_in self.now) state }
+    {
+        let place = self.places[state as usize] as usize;
+        at(self.rows, place).output
+    }
+
+    // A state's next state for an input.
+    pub fn next(&self, state: u8, input: usize) -> u8
+        requires { (has_rows (rows_in self.now) state ≡ true) × (input < inputs_in (rows_in self.now)) }
+        ensures { result ≡ row_next (rows_in self.now) state input }
+    {
+        let place = self.places[state as usize] as usize;
+        at(self.rows, place + input).next
+    }
 }

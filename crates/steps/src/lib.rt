@@ -7,57 +7,58 @@ ghost use Rattle.meaning.specs.Table.{on_output, on_input};
 ghost use Rattle.meaning.specs.Written.{position_bytes, after_round};
 ghost use Rattle.counts.specs.Halves.{half_of};
 ghost use Rattle.counts.specs.Words.{counts_in};
-ghost use Rattle.table.specs.Packed.{table_in};
+ghost use Rattle.table.specs.Packed.{table_in, edge_in};
 ghost use Rattle.steps.specs.Bounded.{Bounded};
 
 use counts::position;
 use counts::position::Half;
+use std::array;
 use table::Table;
 
 // The half of a round on an output; past the eighth letter it has no edges.
+#[tactic(auto, unfolding(table::specs::Packed::table_in))]
 pub fn on_output(table: Table, letter: usize) -> Half
     ensures { half_of result ≡ on_output (table_in table) letter }
 {
-    let targets = table.output_targets;
-    let masks = targets_on(targets, letter);
-    let marks = table.world_marks;
-    Half {
-        sources: table.controllers,
-        targets: table.worlds,
-        masks,
-        marks,
-    }
+    on_letter(
+        table.output_targets,
+        letter,
+        table.controllers,
+        table.worlds,
+        table.world_marks,
+    )
 }
 
 // The half of a round on an input; past the eighth letter it has no edges.
+#[tactic(auto, unfolding(table::specs::Packed::table_in))]
 pub fn on_input(table: Table, letter: usize) -> Half
     ensures { half_of result ≡ on_input (table_in table) letter }
 {
-    let targets = table.input_targets;
-    let masks = targets_on(targets, letter);
-    let marks = table.controller_marks;
+    on_letter(
+        table.input_targets,
+        letter,
+        table.worlds,
+        table.controllers,
+        table.controller_marks,
+    )
+}
+
+// One letter's half of a round: for each source its byte of targets on the letter, and none past the eighth letter.
+fn on_letter(bytes: [u8; 64], letter: usize, sources: usize, targets: usize, marks: [u8; 8]) -> Half
+    ensures { half_of result ≡ record {
+      sources = sources;
+      targets = targets;
+      edge = edge_in bytes letter;
+      mark = λ q. get_or marks q 0;
+    } }
+{
+    let masks = array::from_fn(|p| if letter < 8 { bytes[letter * 8 + p] } else { 0 });
     Half {
-        sources: table.worlds,
-        targets: table.controllers,
+        sources,
+        targets,
         masks,
         marks,
     }
-}
-
-// For each state its targets on one letter.
-fn targets_on(targets: [u8; 64], letter: usize) -> [u8; 8]
-    ensures { result ≡ tab 8 (λ p. get_or targets (letter * 8 + p) 0) }
-{
-    let mut masks = [0u8; 8];
-    if 8 <= letter {
-        return masks;
-    }
-    let mut p = 0;
-    while p < 8 {
-        masks[p] = targets[letter * 8 + p];
-        p += 1;
-    }
-    masks
 }
 
 // The position after a round: an output, then an input.

@@ -1,20 +1,18 @@
--- What one record more adds to the states, letters, marks and starts of the table that records state. A state record is the next state of
+-- What one record more adds to the states, marks and starts of the table that records state. A state record is the next state of
 -- its side, whose number is the number of states before it. By the laws of appending. Assumes nothing.
-use mathlib.Core.Path.{◌≡◌, refl, sym, ap, ap₂, ◌∙◌}
+use mathlib.Core.Path.{◌≡◌, refl, sym, ap, ◌∙◌}
 use mathlib.Core.Bool.{Bool, ◌||◌, or-true, or-false, false, true}
 use mathlib.Core.List.{List, [], ◌∷◌, ◌++◌, append-nil}
-use Prim.Native.Nat.{ℕ, suc, ◌+◌, ◌≤◌, ◌<◌, max}
+use Prim.Native.Nat.{ℕ, ◌+◌, ◌≤◌, ◌<◌}
 use native.Mathlib.Decide.{dec_lt}
-use native.Mathlib.Numerals.{add-one}
 use native.Mathlib.Omega.{arith}
 use lib.ListN.{length, get_or, take, set, length-append, length-take, length-set, get_or-append, get_or-eq_default}
 use lib.Seq.{get_or-append_seam, get_or-set_same, get_or-set_other, ext_get_or}
 use lib.Dec.{eqb}
 use borrow.Author.Tests.{eq-eqb, ne_eqb}
-use Rattle.meaning.specs.Lists.{tab, keep, largest}
+use Rattle.meaning.specs.Lists.{tab, keep}
 use Rattle.meaning.specs.Records.{Record, at, blank, of_kind, controller}
-use Rattle.meaning.specs.Table.{letters, mark_of, starts_of, bit, mark_in, start_in}
-use Rattle.meaning.proofs.Tests.{largest-same}
+use Rattle.meaning.specs.Table.{mark_of, starts_of, bit, mark_in, start_in}
 use Rattle.meaning.proofs.Lists.{keep_append, tab-length, tab-at, tab-same}
 use Rattle.meaning.proofs.Searches.{at_each}
 use Rattle.meaning.proofs.Sizes.{keep-length}
@@ -59,25 +57,6 @@ at_other rs r j e = go (dec_lt j (length rs))
     go (no l) =
         get_or-eq_default (rs ++ (r ∷ [])) blank (omega (arith, length-append rs (r ∷ [])))
         ∙ sym (get_or-eq_default rs blank (omega arith))
-
--- letters
-pub letters_this : (kind : ℕ) (rs : List Record) (r : Record) → r.kind ≡ kind
-    → letters kind (rs ++ (r ∷ [])) ≡ max (letters kind rs) (suc r.letter)
-unfolding letters
-letters_this kind rs r e =
-    let es = of_kind kind rs in
-    let more = es ++ (r ∷ []) in
-    let f : ℕ → ℕ = λ i. suc (at more i).letter in
-    ap (λ (l : List Record). largest (length l) (λ i. suc (at l i).letter)) (of_kind_this kind rs r e)
-    ∙ ap (λ (n : ℕ). largest n f) (length-append es (r ∷ []) ∙ add-one (length es))
-    ∙ ap₂ max
-    (largest-same (length es) f (λ i. suc (at es i).letter)
-    (λ i h. ap (λ (s : Record). suc s.letter) (at_other es r i (λ q. omega arith))))
-    (ap (λ (s : Record). suc s.letter) (at_last es r))
-
-pub letters_other : (kind : ℕ) (rs : List Record) (r : Record) → (r.kind ≡ kind → ⊥) → letters kind (rs ++ (r ∷ [])) ≡ letters kind rs
-unfolding letters
-letters_other kind rs r e = ap (λ (l : List Record). largest (length l) (λ i. suc (at l i).letter)) (of_kind_other kind rs r e)
 
 -- one place of a tab set anew
 pub tab-set : (n : ℕ) (f g : ℕ → ℕ) (k : ℕ) → k < n → ((j : ℕ) → j < n → (j ≡ k → ⊥) → f j ≡ g j) → set (tab n f) k (g k) ≡ tab n g

@@ -1,25 +1,17 @@
--- What checks 4 to 10 of one table come to, and the table that is read in the same go.
-use Rattle.std.specs.Prelude.{List, [], ℕ}
-use Rattle.meaning.specs.Records.{records_of}
+-- What checks 4 to 10 of one table come to: the table that is read in the same go, or the fault.
+use Rattle.std.specs.Prelude.{cond, List, ℕ, length, ltb, Option, Some, None, Result, Ok, Err}
+use Rattle.meaning.specs.declared.Fault.{Fault}
+use Rattle.meaning.specs.Records.{Record, records_of}
 use Rattle.meaning.specs.Table.{table_of}
-use Rattle.meaning.specs.Checks.{Check, judge, table_checks}
+use Rattle.meaning.specs.Checks.{judge, table_checks}
+use Rattle.meaning.specs.Answers.{fault_of}
 use Rattle.table.specs.declared.Table.{Table}
-use Rattle.table.specs.declared.Checked.{Checked}
-use Rattle.table.specs.declared.Checked.TheVariants.{Passes, Fails}
-use Rattle.table.specs.declared.Reading.{Reading}
 use Rattle.table.specs.Packed.{packed}
 
--- "Checks run in this order": the refusal of the first that fails and its place, or none
-abbrev pub checked_of : List Check → Checked
-checked_of cs = judge cs (λ c. Fails c.refusal c.fault_at) Passes
+-- "Checks run in this order": the table, or the refusal of the first check that fails and its place
+abbrev pub reading_of : List ℕ → Result Table Fault
+reading_of bytes = judge (table_checks 0 bytes) (λ c. Err (fault_of c)) (Ok (packed (table_of (records_of bytes))))
 
--- a table that passes; after a refusal the table of no records
-abbrev pub unless_refused : Table → Checked → Table
-unless_refused t Passes = t
-unless_refused t (Fails refusal place) = packed (table_of [])
-
-abbrev pub reading : Table → Checked → Reading
-reading t checked = record { checked = checked; table = unless_refused t checked }
-
-abbrev pub reading_of : List ℕ → Reading
-reading_of bytes = reading (packed (table_of (records_of bytes))) (checked_of (table_checks 0 bytes))
+-- a place, where it is that of a record
+abbrev pub below : List Record → ℕ → Option ℕ
+below rs i = cond (ltb i (length rs)) (Some i) None

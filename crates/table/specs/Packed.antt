@@ -12,6 +12,11 @@ use Rattle.table.specs.declared.Table.{Table}
 abbrev pub record_in : Record → R.Record
 record_in r = record { kind = r.kind; from = r.from; letter = r.letter; to = r.to }
 
+-- and as the four bytes stand in code
+abbrev pub of_bytes : List ℕ → R.Record
+of_bytes bytes =
+    record { kind = get_or bytes 0 0; from = get_or bytes 1 0; letter = get_or bytes 2 0; to = get_or bytes 3 0 }
+
 -- "The targets of one state on one letter are kept as eight bits": letter l, state p is byte l * 8 + p
 abbrev pub edge_in : List ℕ → ℕ → ℕ → ℕ → Bool
 edge_in targets letter p q = ltb p 8 && bit (get_or targets (letter * 8 + p) 0) q

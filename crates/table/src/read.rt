@@ -9,82 +9,59 @@ use crate::record::Record;
 use crate::{Table, record};
 
 // The table of the bytes, whatever they are: states and letters past the eighth are left out.
+#[tactic(auto, unfolding(meaning::specs::Table::table_of, crate::specs::Packed::packed))]
 pub fn read(bytes: &[u8]) -> Table
     ensures { result ≡ packed (table_of (records_of bytes.now)) }
 {
-    let controllers = states(bytes, record::CONTROLLER);
-    let worlds = states(bytes, record::WORLD);
-    let outputs = letters(bytes, record::OUTPUT);
-    let inputs = letters(bytes, record::INPUT);
-    let starts = starts(bytes);
-    let controller_marks = marks(bytes, record::CONTROLLER);
-    let world_marks = marks(bytes, record::WORLD);
-    let output_targets = targets(bytes, record::OUTPUT);
-    let input_targets = targets(bytes, record::INPUT);
     Table {
-        controllers,
-        worlds,
-        outputs,
-        inputs,
-        starts,
-        controller_marks,
-        world_marks,
-        output_targets,
-        input_targets,
+        controllers: states(bytes, record::CONTROLLER),
+        worlds: states(bytes, record::WORLD),
+        outputs: letters(bytes, record::OUTPUT),
+        inputs: letters(bytes, record::INPUT),
+        starts: starts(bytes),
+        controller_marks: marks(bytes, record::CONTROLLER),
+        world_marks: marks(bytes, record::WORLD),
+        output_targets: targets(bytes, record::OUTPUT),
+        input_targets: targets(bytes, record::INPUT),
     }
 }
 
 // How many state records of a kind there are.
-fn states(bytes: &[u8], kind: u8) -> usize
+pub(crate) fn states(bytes: &[u8], kind: u8) -> usize
     ensures { result ≡ length (of_kind kind (records_of bytes.now)) }
 {
-    let mut count = 0;
-    let mut i = 0;
-    while i < bytes.len() / 4 {
-        let r = record::at(bytes, i);
-        if r.kind == kind {
-            count += 1;
-        }
-        i += 1;
-    }
-    count
+    record::records(bytes)
+        .iter()
+        .map(|r| Record::from(*r))
+        .filter(|r| r.kind == kind)
+        .count()
 }
 
 // One more than the largest letter of a kind, or 0.
 pub fn letters(bytes: &[u8], kind: u8) -> usize
     ensures { result ≡ letters_of kind (records_of bytes.now) }
 {
-    let mut count = 0;
-    let mut i = 0;
-    while i < bytes.len() / 4 {
-        let r = record::at(bytes, i);
-        let letter = r.letter as usize;
-        if r.kind == kind {
-            if count <= letter {
-                count = letter + 1;
-            }
-        }
-        i += 1;
-    }
-    count
+    let edges = record::records(bytes)
+        .iter()
+        .map(|r| Record::from(*r))
+        .filter(|r| r.kind == kind);
+    edges.map(|r| usize::from(r.letter) + 1).max().unwrap_or(0)
 }
 
 // The start states, as eight bits.
 fn starts(bytes: &[u8]) -> u8
     ensures { result ≡ mask 8 (starts_of (records_of bytes.now)) }
 {
-    let mut set = 0u8;
+    let mut set = 0;
     let mut q = 0;
-    let mut i = 0;
-    while i < bytes.len() / 4 {
-        let r = record::at(bytes, i);
+    for r in record::records(bytes) {
+        let r = Record::from(*r);
         if r.kind == record::CONTROLLER {
             if record::is_start(r) {
                 set = masks::with_state(set, q);
             }
             q += 1;
         }
-        i += 1;
     }
     set
 }
@@ -93,18 +70,16 @@ fn starts(bytes: &[u8]) -> u8
 fn marks(bytes: &[u8], kind: u8) -> [u8; 8]
     ensures { result ≡ marks_of (mark_of kind (records_of bytes.now)) }
 {
-    let mut marks = [0u8; 8];
+    let mut marks = [0; 8];
     let mut q = 0;
-    let mut i = 0;
-    while i < bytes.len() / 4 {
-        let r = record::at(bytes, i);
+    for r in record::records(bytes) {
+        let r = Record::from(*r);
         if r.kind == kind {
             if q < 8 {
                 marks[q] = record::mark(r);
             }
             q += 1;
         }
-        i += 1;
     }
     marks
 }
@@ -113,15 +88,13 @@ fn marks(bytes: &[u8], kind: u8) -> [u8; 8]
 fn targets(bytes: &[u8], kind: u8) -> [u8; 64]
     ensures { result ≡ targets_of (edge_of kind (records_of bytes.now)) }
 {
-    let mut masks = [0u8; 64];
-    let mut i = 0;
-    while i < bytes.len() / 4 {
-        let r = record::at(bytes, i);
+    let mut masks = [0; 64];
+    for r in record::records(bytes) {
+        let r = Record::from(*r);
         if is_edge(r, kind) {
-            let k = (r.letter * 8 + r.from) as usize;
-            masks[k] = masks::with_state(masks[k], r.to as usize);
+            let k = usize::from(r.letter) * 8 + usize::from(r.from);
+            masks[k] = masks::with_state(masks[k], usize::from(r.to));
         }
-        i += 1;
     }
     masks
 }
@@ -130,11 +103,5 @@ fn targets(bytes: &[u8], kind: u8) -> [u8; 64]
 fn is_edge(r: Record, kind: u8) -> bool
     ensures { result ≡ (eqb r.kind kind && ltb r.from 8 && ltb r.letter 8) }
 {
-    if r.kind != kind {
-        return false;
-    }
-    if 8 <= r.from {
-        return false;
-    }
-    r.letter < 8
+    r.kind == kind && r.from < 8 && r.letter < 8
 }

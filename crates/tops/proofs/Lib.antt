@@ -1,4 +1,5 @@
 -- The laws that belong to no one function, each after those it cites.
+pub mod Positions
 pub mod Kept
 pub mod Climb
 pub mod Meets

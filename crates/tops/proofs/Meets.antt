@@ -8,6 +8,7 @@ use Rattle.meaning.specs.Counting.{Position}
 use Rattle.meaning.proofs.Lists.{flat_map-member, member-flat_map}
 use Rattle.counts.specs.Halves.{lesser_counts}
 use Rattle.counts.proofs.Lesser.{lesser_length}
+use Rattle.lists.specs.Members.{positions}
 use Rattle.lists.proofs.Members.{Sized}
 use Rattle.tops.specs.Tops.{meets}
 
@@ -33,6 +34,11 @@ meets-within Es Fs Gs Hs left right F m =
 
 pub meets-sized : (n : ℕ) (Fs Gs : List Position) → Sized n Fs → Sized n (meets Fs Gs)
 meets-sized n Fs Gs s H m = let r = member-meets Fs Gs H m in rw (r.4, lesser_length r.0 r.1) (s r.0 r.2)
+
+-- of no words there are none
+pub meets_none : meets (positions []) (positions []) ≡ []
+unfolding positions meets flat_map
+meets_none = refl
 
 -- the pairs of two lists of members, of those around one, and of one more
 meets-append : (Es Fs Gs : List Position) → meets (Es ++ Fs) Gs ≡ meets Es Gs ++ meets Fs Gs

@@ -7,7 +7,10 @@ use mathlib.Core.Bool.{true, false, not}
 use mathlib.Core.List.Memᴰ
 use mathlib.Core.List.{List, [], ◌∷◌, ◌++◌}
 use mathlib.Core.List.{Memᴰ}
-use Prim.Native.Nat.{ℕ}
+use Prim.Native.Nat.{ℕ, suc, ◌≤◌}
+use native.Mathlib.Nat.{le_refl}
+use native.Mathlib.Omega.{arith}
+use lib.ListN.{length, length-append}
 use borrow.Author.Tests.{not-true}
 use Rattle.meaning.specs.Lists.{keep}
 use Rattle.meaning.specs.Counting.{Position, below, covered}
@@ -19,6 +22,7 @@ use Rattle.counts.proofs.Lesser.{lesser_mono}
 use Rattle.lists.specs.Members.{thin_one}
 use Rattle.lists.proofs.Members.{Sized}
 use Rattle.tops.specs.Tops.{tops, meets, thinned}
+use Rattle.tops.proofs.Positions.{keep-length}
 use Rattle.tops.proofs.Kept.{Covered, append-sized}
 use Rattle.tops.proofs.Meets.{meets-member, member-meets, meets-within, meets-sized}
 use Rattle.tops.proofs.SameTops.{Alone, tops-thin}
@@ -78,6 +82,19 @@ thinned-covers (G ∷ Gs) F m =
     let d = one_covers G (thinned Gs) c.0 (Memᴰ.tail c.1) in
     (d.0, d.1, below_trans F c.0 d.0 c.2 d.2))
     (Memᴰ.cases_cons m)
+
+-- there are no more of them than in the list
+pub thinned-length : (Fs : List Position) → length (thinned Fs) ≤ length Fs
+unfolding thinned
+thinned-length [] = le_refl 0
+thinned-length (F ∷ Fs) =
+    one_cases F (thinned Fs) (λ l. length l ≤ suc (length Fs)) (λ _. omega (arith, thinned-length Fs))
+    (λ _. omega (
+      arith,
+      thinned-length Fs,
+      keep-length (λ (G : Position). not (below G F)) (thinned Fs),
+      length-append (keep (λ (G : Position). not (below G F)) (thinned Fs)) (F ∷ []),
+    ))
 
 pub thinned-alone : (Fs : List Position) → Alone (thinned Fs)
 unfolding thinned

@@ -1,10 +1,12 @@
 -- The controller's buffer while the rows are written state by state: the blocks of the first b states are there, and what is beyond them
 -- stays. A block takes 4 bytes for each of at most 8 inputs. Assumes nothing.
-use mathlib.Core.Path.{◌≡◌, refl, sym, ap, ◌∙◌}
+use mathlib.Core.Path.{◌≡◌, sym, ap, ◌∙◌}
 use mathlib.Core.Bool.{cond}
 use mathlib.Core.List.{List, [], ◌∷◌, ◌++◌, flat_map}
-use Prim.Native.Nat.{ℕ, ◌+◌, ◌-◌, ◌*◌, ◌≤◌, ◌<◌, zero-le}
+use Prim.Native.Nat.{ℕ, zero, suc, ◌+◌, ◌-◌, ◌*◌, ◌≤◌, ◌<◌}
+use native.Mathlib.Numerals.{add-one}
 use native.Mathlib.Omega.{arith}
+use Rattle.std.proofs.Math.Nat.{mul-le-mul_left}
 use lib.Dec.{eqb, leb}
 use lib.ListN.{length, take, drop, length-append}
 use Rattle.meaning.specs.Lists.{tab, written}
@@ -12,7 +14,7 @@ use Rattle.meaning.specs.Table.{Table}
 use Rattle.meaning.specs.Counting.{Position, covered}
 use Rattle.meaning.specs.Written.{Row, row_bytes, rows_of_state, rows_from}
 use Rattle.meaning.proofs.Tests.{cond_cases}
-use Rattle.meaning.proofs.Stores.{tab-more, written-length, written_part}
+use Rattle.meaning.proofs.Stores.{tab-more, written_part}
 use Rattle.meaning.proofs.Lists.{flat_map-append, flat_map-more}
 use Rattle.writing.specs.Playable.{state_at}
 use Rattle.writing.proofs.Rows.{row_on, rows_on, rows-length}
@@ -24,6 +26,10 @@ unfolding state_at
 state-inside start number b s l =
     cond_cases (eqb b 0) start (cond (leb b start) (b - 1) b) (λ r. r < number) (λ _. s)
     (λ _. cond_cases (leb b start) (b - 1) b (λ r. r < number) (λ _. omega arith) (λ _. l))
+
+-- b blocks of at most eight rows take at most 32 bytes each
+pub blocks_fit : (b inputs : ℕ) → inputs ≤ 8 → b * inputs * 4 ≤ 32 * b
+blocks_fit b inputs few = omega (arith, mul-le-mul_left b few)
 
 module _ (K : ℕ) (t : Table) (ws : List Position) (start : ℕ) where
   -- the bytes of one state's rows, and of the first b in their order
@@ -48,30 +54,19 @@ module _ (K : ℕ) (t : Table) (ws : List Position) (start : ℕ) where
   blocks-whole h = ap (λ (states : List ℕ). row_bytes (flat_map (rows_of_state K t (covered ws) ws) states))
       (sym (order_tab start (length ws) h))
 
-  -- the buffer after b blocks, which end at a place
-  pub record Blocks (old : List ℕ) (b at : ℕ) (controller : List ℕ) : Type 0 where
-    pub ends : length (blocks b) ≡ at
-    pub most : at ≤ 32 * b
-    pub long : length controller ≡ length old
-    pub done : controller ≡ written (blocks b) old
-
-  pub blocks-none : (old : List ℕ) → Blocks old 0 0 old
+  pub blocks-length : (b : ℕ) → length (blocks b) ≡ b * t.inputs * 4
   unfolding row_bytes flat_map
-  blocks-none old = record { ends = refl; most = zero-le; long = refl; done = refl }
+  blocks-length zero = omega arith
+  blocks-length (suc b) =
+      ap (λ (n : ℕ). length (blocks n)) (sym (add-one b)) ∙ ap length (blocks_more b) ∙ length-append (blocks b) (block (state_at start b))
+      ∙ omega (arith, blocks-length b, block-length (state_at start b))
 
-  pub blocks-next : (old : List ℕ) (b at state : ℕ) (controller part : List ℕ) → Blocks old b at controller → t.inputs ≤ 8
-      → 32 * (b + 1) ≤ length old
-      → state ≡ state_at start b → part ≡ written (block state) (take (length controller - at) (drop at controller))
-      → Blocks old (b + 1) (at + t.inputs * 4) (take at controller ++ (part ++ drop (length controller - at) (drop at controller)))
-  blocks-next old b at state controller part before few room e p =
-      let more : blocks b ++ block state ≡ blocks (b + 1) = ap (λ (s : ℕ). blocks b ++ block s) e ∙ sym (blocks_more b) in
-      let size : length (blocks (b + 1)) ≡ at + t.inputs * 4 =
-      omega (arith, ap length more, length-append (blocks b) (block state), before.ends, block-length state) in
-      let filled = written_part old (blocks b) (block state) controller part at before.ends before.done p
-      ∙ ap (λ (l : List ℕ). written l old) more in
-      record {
-        ends = size;
-        most = omega (arith, before.most);
-        long = ap length filled ∙ written-length old (blocks (b + 1)) (omega (arith, before.most));
-        done = filled;
-      }
+  -- the buffer after one block more
+  pub blocks-next : (old : List ℕ) (b state : ℕ) (controller part : List ℕ) → controller ≡ written (blocks b) old → state ≡ state_at start b
+      → part ≡ written (block state) (take (length controller - b * t.inputs * 4) (drop (b * t.inputs * 4) controller))
+      → take (b * t.inputs * 4) controller
+      ++ (part ++ drop (length controller - b * t.inputs * 4) (drop (b * t.inputs * 4) controller))
+      ≡ written (blocks (b + 1)) old
+  blocks-next old b state controller part before e p =
+      written_part old (blocks b) (block state) controller part (b * t.inputs * 4) (blocks-length b) before p
+      ∙ ap (λ (l : List ℕ). written l old) (ap (λ (s : ℕ). blocks b ++ block s) e ∙ sym (blocks_more b))

@@ -1,7 +1,7 @@
 -- The winners' bytes one by one: byte b is the count of state b % 8 of winner b / 8. By induction on the list. Assumes nothing.
 use mathlib.Core.Path.{◌≡◌, ap, ◌∙◌}
 use mathlib.Core.List.{List, [], ◌∷◌, flat_map}
-use Prim.Native.Nat.{ℕ, suc, ◌+◌, ◌-◌, ◌*◌, ◌/◌, ◌%◌, ◌≤◌, ◌<◌}
+use Prim.Native.Nat.{ℕ, suc, ◌+◌, ◌-◌, ◌*◌, ◌/◌, ◌%◌, ◌<◌}
 use native.Mathlib.Decide.{dec_lt}
 use native.Mathlib.Omega.{arith}
 use lib.ListN.{length, get_or, get_or-append}
@@ -11,12 +11,13 @@ use Rattle.meaning.specs.Written.{position_bytes, winners_bytes}
 use Rattle.meaning.proofs.Lists.{get_or-inside}
 use Rattle.counts.specs.Words.{counts_in}
 use Rattle.counts.proofs.Wide.{wide_length, wide_at}
-use Rattle.lists.specs.Members.{members}
-use Rattle.lists.proofs.Members.{members-length, members-at}
+use Rattle.lists.specs.Members.{positions}
+use Rattle.lists.proofs.Members.{positions-length, positions-at}
 
--- member i of the first n of an array
-pub member-counts : (all : List ℕ) (i n : ℕ) → i < n → n ≤ length all → get_or (members all n) i [] ≡ counts_in (get_or all i 0)
-member-counts all i n l h = get_or-inside (members all n) i [] (counts_in 0) (omega (arith, members-length all n h)) ∙ members-at all i n l
+-- the position that word i holds
+pub position-counts : (all : List ℕ) (i : ℕ) → i < length all → get_or (positions all) i [] ≡ counts_in (get_or all i 0)
+position-counts all i h =
+    get_or-inside (positions all) i [] (counts_in 0) (omega (arith, positions-length all)) ∙ positions-at all i
 
 -- byte b of the winners
 pub bytes-at : (ws : List Position) (b : ℕ) → b < 8 * length ws → get_or (winners_bytes ws) b 0 ≡ count (get_or ws (b / 8) []) (b % 8)

@@ -2,10 +2,11 @@
 -- output leads back. By the laws of appending and of searching. Assumes nothing.
 use mathlib.Core.Path.{◌≡◌, refl, sym, ap, ◌∙◌}
 use mathlib.Core.Bool.{Bool, true}
-use mathlib.Core.List.{List, [], ◌∷◌, ◌++◌}
+use mathlib.Core.List.{List, [], ◌∷◌, ◌++◌, append_assoc}
 use Prim.Native.Nat.{ℕ, ◌+◌, ◌-◌, ◌*◌, ◌<◌}
 use native.Mathlib.Omega.{arith}
-use lib.ListN.{length, get_or, take, drop}
+use lib.ListN.{length, get_or, take, drop, length-append}
+use lib.Seq.{take_at, drop_at, drop-drop}
 use Rattle.meaning.specs.Lists.{tab, any, place, written}
 use Rattle.meaning.specs.Table.{Table}
 use Rattle.meaning.specs.Counting.{Position, below, covered}
@@ -13,8 +14,16 @@ use Rattle.meaning.specs.Written.{Row, covering, after_round, output_of, row_byt
 use Rattle.meaning.proofs.Tests.{each_at, first_holds}
 use Rattle.meaning.proofs.Lists.{tab-length, any_at, at-member, place_found, flat_map-more}
 use Rattle.meaning.proofs.Buffers.{rows-bytes}
-use Rattle.meaning.proofs.Stores.{tab-more, written_part}
+use Rattle.meaning.proofs.Stores.{tab-more}
 use Rattle.writing.specs.Playable.{Playable}
+
+-- what is written in place of so many bytes from there on
+written_at : (old new more whole : List ℕ) (at n : ℕ) → length new ≡ at → whole ≡ written new old → length more ≡ n
+    → take at whole ++ (more ++ drop n (drop at whole)) ≡ written (new ++ more) old
+written_at old new more whole at n e w m =
+    let front : take at whole ≡ new = ap (take at) w ∙ take_at new (drop (length new) old) at e in
+    let rest : drop at whole ≡ drop (length new) old = ap (drop at) w ∙ drop_at new (drop (length new) old) at e in
+    rw (front, rest, ← m, length-append, append_assoc, drop-drop)
 
 -- one row more
 pub rows_more : (f : ℕ → Row) (i : ℕ) → row_bytes (tab (i + 1) f) ≡ row_bytes (tab i f)
@@ -26,13 +35,13 @@ rows_more f i =
 pub rows-length : (f : ℕ → Row) (i : ℕ) → length (row_bytes (tab i f)) ≡ i * 4
 rows-length f i = rows-bytes (tab i f) ∙ ap (λ (n : ℕ). n * 4) (tab-length i f)
 
--- a row written to the part of the buffer after those of the inputs before
-pub row_written : (old : List ℕ) (f : ℕ → Row) (i : ℕ) (whole part row : List ℕ) → whole ≡ written (row_bytes (tab i f)) old
-    → part ≡ written row (take (length whole - i * 4) (drop (i * 4) whole))
+-- a row written after those of the inputs before
+pub row_written : (old : List ℕ) (f : ℕ → Row) (i : ℕ) (whole row : List ℕ) → whole ≡ written (row_bytes (tab i f)) old
     → row ≡ (f i).state ∷ (f i).output ∷ (f i).input ∷ (f i).next ∷ []
-    → take (i * 4) whole ++ (part ++ drop (length whole - i * 4) (drop (i * 4) whole)) ≡ written (row_bytes (tab (i + 1) f)) old
-row_written old f i whole part row w p e =
-    written_part old (row_bytes (tab i f)) row whole part (i * 4) (rows-length f i) w p
+    → take (4 * i) whole ++ (row ++ drop (4 * i + 4 - 4 * i) (drop (4 * i) whole)) ≡ written (row_bytes (tab (i + 1) f)) old
+row_written old f i whole row w e =
+    let four : length row ≡ 4 = ap length e in
+    written_at old (row_bytes (tab i f)) row whole (4 * i) (4 * i + 4 - 4 * i) (rows-length f i ∙ omega arith) w (omega arith)
     ∙ ap (λ (l : List ℕ). written l old) (ap (λ (l : List ℕ). row_bytes (tab i f) ++ l) e ∙ sym (rows_more f i))
 
 -- a test that holds of some member has a place

@@ -1,11 +1,7 @@
--- `read`: the loop's invariant is that the bytes before q are digits and their numbers are packed in `position` (`Taken`). A turn takes one
--- byte more, unless it is no digit; the eighth ends the word. The measure is the number of bytes left. Assumes nothing.
-use Rattle.std.proofs.Common.{◌-◌}
+-- `read`: the loop's invariant is that the bytes before its place are digits and their numbers are packed in `position` (`Taken`). A turn
+-- takes one byte more, unless it is no digit; the eighth ends the word. Assumes nothing.
 use Rattle.compare.proofs.Reading.{Taken}
 use Rattle.compare.proofs.read.Given as goal
 
-abbrev pub invariant-loop-q : goal.invariant-loop-q
-invariant-loop-q l = Taken l.word l.q l.position
-
-abbrev pub decreases-loop-q : goal.decreases-loop-q
-decreases-loop-q l = 8 - l.q
+abbrev pub invariant-loop-byte : goal.invariant-loop-byte
+invariant-loop-byte l = Taken l.word l.byte-index l.position

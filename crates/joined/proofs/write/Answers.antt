@@ -1,4 +1,5 @@
--- `write`: what its invariants come to at each of the goals below; how the proof goes stands beside them. Assumes nothing.
+-- `write`: of each kind the first table's records are stored, and then the second's, renumbered by the first's few states; there is room,
+-- since the joined table's bytes are at most 4160. After the last kind they are the joined table. Assumes nothing.
 use mathlib.Core.Path.{◌≡◌, ap, ◌∙◌}
 use mathlib.Core.List.{List, flat_map}
 use Prim.Native.Nat.{ℕ, ◌+◌, ◌≤◌}
@@ -8,30 +9,30 @@ use lib.ListN.{length}
 use Rattle.meaning.specs.Records.{records_of, bytes_of}
 use Rattle.meaning.specs.Join.{joined_bytes}
 use Rattle.meaning.proofs.Records.{Kind, kind-of}
-use Rattle.joined.specs.declared.pair.Readings.{Readings}
+use Rattle.joined.specs.declared.pair.Tables.{Tables}
 use Rattle.joined.specs.Joined.{moved_bytes, ReadBoth, Stored}
 use Rattle.joined.proofs.Paired.{few-states, read_first, read-joinable}
 use Rattle.joined.proofs.Appended.{sets_written, stored-none, stored_more, stored-length, joined_before, joined-more, joined-room}
 use Rattle.joined.proofs.Appended.{joined-all}
 use Rattle.joined.proofs.write.Goals as goal
 
-module _ (one two : List ℕ) (read : Readings) (pass : ReadBoth one two read) where
+module _ (one two : List ℕ) (tables : Tables) (pass : ReadBoth one two tables) where
   -- the first table has few states
-  few : (read.first.controllers ≤ 8) × (read.first.worlds ≤ 8)
-  few = few-states one read.first (read_first one two pass) (read-joinable one two pass).first
+  few : (tables.first.controllers ≤ 8) × (tables.first.worlds ≤ 8)
+  few = few-states one tables.first (read_first one two pass) (read-joinable one two pass).first
 
   -- there is room for both tables' records of a kind
   room : {old out : List ℕ} {kind end : ℕ} → 4160 ≤ length old → Kind kind
-      → Stored old 0 (joined_before read.first.controllers read.first.worlds (records_of one) (records_of two) kind) out end
+      → Stored old 0 (joined_before tables.first.controllers tables.first.worlds (records_of one) (records_of two) kind) out end
       → end + length (moved_bytes 0 0 kind (records_of one))
-      + length (moved_bytes read.first.controllers read.first.worlds kind (records_of two)) ≤ length out
+      + length (moved_bytes tables.first.controllers tables.first.worlds kind (records_of two)) ≤ length out
   room {kind = kind} large k stored =
       omega (
         arith,
         stored.ends,
         stored-length stored,
-        joined-room read.first.controllers read.first.worlds (records_of one) (records_of two) kind k,
-        ap length (joined-all one two read.first (read_first one two pass)),
+        joined-room tables.first.controllers tables.first.worlds (records_of one) (records_of two) kind k,
+        ap length (joined-all one two tables.first (read_first one two pass)),
         (read-joinable one two pass).short,
       )
 
@@ -72,7 +73,7 @@ append-end-requires-in-loop-kind c =
 
 pub loop-kind-preserved : goal.loop-kind-preserved
 loop-kind-preserved c =
-    let t = c.args.read.first in
+    let t = c.args.tables.first in
     let rs = records_of c.args.first.now in
     let ss = records_of c.args.second.now in
     let kind = c.loop-kind.kind in (
@@ -92,7 +93,7 @@ returns c =
     let two = c.args.second.now in
     let pass = c.requires.pass in
     let last : c.loop-kind.kind ≡ 5 = omega arith in
-    let all = rw (last, joined-all one two c.args.read.first (read_first one two pass)) at c.loop-kind.invariant.2 in
+    let all = rw (last, joined-all one two c.args.tables.first (read_first one two pass)) at c.loop-kind.invariant.2 in
     record {
       size = omega (arith, all.ends);
       bytes =

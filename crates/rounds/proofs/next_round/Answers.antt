@@ -1,30 +1,20 @@
--- `next_round`: the array of the inputs holds the list of A for all inputs, so what the outputs make of it is W(r + 1). If the inputs had
+-- `next_round`: the words of the inputs hold the list of A for all inputs, so what the outputs make of it is W(r + 1). If the inputs had
 -- room, the widest list of the round is past the room exactly if that of the outputs is. Assumes nothing.
+use mathlib.Core.Path.{ap}
 use native.Mathlib.Omega.{arith}
-use Rattle.table.specs.Packed.{table_in}
-use Rattle.lists.specs.Members.{members}
-use Rattle.tops.proofs.Held.{full-otherwise}
+use Rattle.std.specs.Prelude.{is_ok, is_err}
 use Rattle.sets.specs.Engine.{next_list}
 use Rattle.rounds.specs.Rounds.{widest_of}
-use Rattle.rounds.proofs.Runs.{last-full, full-last, number-last, last-after}
-use Rattle.rounds.proofs.Settles.{inputs-within}
+use Rattle.rounds.proofs.Runs.{last-full, full-last, fits-last, last-after}
 use Rattle.rounds.proofs.next_round.Goals as goal
 
-pub returns-in_default : goal.returns-in_default
+pub returns-in_err-all_inputs : goal.returns-in_err-all_inputs
 unfolding widest_of
-returns-in_default c =
-    last-full (omega (arith, full-last c.all_inputs-found.ensures (full-otherwise _ c.in_default.not-Number)))
-
-pub all_outputs-requires : goal.all_outputs-requires
-all_outputs-requires c =
-    let given = c.args in
-    let held = number-last c.all_inputs-found.ensures c.in-Number.is in
-    let few = inputs-within given.k (table_in given.table) (members given.w.now given.wn) in
-    let kept = c.all_inputs-found.auto.a in
-    (omega arith, omega (arith, held.0, held.1, few), omega (arith, held.0, held.1, few, kept), omega arith, omega arith)
+returns-in_err-all_inputs c =
+    last-full c.from_residual.ensures.0 (omega (arith, full-last c.all_inputs.ensures (ap is_err c.in_err-all_inputs.was)))
 
 pub returns : goal.returns
 unfolding next_list widest_of
 returns c =
-    let held = number-last c.all_inputs-found.ensures c.in-Number.is in
-    last-after (rw held.2 at c.all_outputs.ensures) held.0
+    let held = fits-last c.all_inputs.ensures (ap is_ok c.in_ok-all_inputs.was) in
+    last-after (rw (c.deref.ensures.0, held.1) at c.all_outputs.ensures) held.0

@@ -1,93 +1,67 @@
--- `settle`: what its invariants come to at each of the goals below; how the proof goes stands beside them. Assumes nothing.
-use mathlib.Core.Path.{◌≡◌, sym, ◌∙◌}
-use mathlib.Core.List.{List}
-use Prim.Native.Nat.{ℕ, ◌≤◌}
+-- `settle`: the rounds begin at the first list. A round whose answer is an error is FULL; any other had room for all its lists, and its
+-- words hold the list of W(r + 1). Where that is the list of W(r) the rounds are settled, and else one more has run, of which there are
+-- too few to pass a word. Assumes nothing.
+use Rattle.std.proofs.Common.{rules}
+use lib.ListN.{length}
+use mathlib.Core.Path.{◌≡◌, refl, sym, ap, ◌∙◌}
 use native.Mathlib.Numerals.{add-one}
 use native.Mathlib.Omega.{arith}
-use borrow.Author.Rules.{rules}
-use Rattle.meaning.specs.Table.{Table}
-use Rattle.meaning.specs.Counting.{Position}
+use Rattle.std.specs.Prelude.{is_ok, is_err}
 use Rattle.meaning.proofs.Tests.{clash}
 use Rattle.meaning.proofs.Rounds.{rounds-few}
 use Rattle.table.specs.Packed.{table_in}
-use Rattle.lists.specs.Members.{members}
-use Rattle.lists.proofs.Members.{members-length}
-use Rattle.tops.specs.declared.Found.{Found}
-use Rattle.tops.specs.declared.Found.TheVariants.{Number}
-use Rattle.tops.proofs.Held.{full-otherwise}
+use Rattle.lists.specs.Members.{positions}
+use Rattle.lists.proofs.Members.{positions-length}
 use Rattle.sets.specs.Engine.{next_list}
-use Rattle.rounds.specs.Rounds.{widest_of, HoldsLast}
-use Rattle.rounds.proofs.Runs.{full-last, number-last}
-use Rattle.rounds.proofs.Settles.{next-within, settles_first-full, settles_start, settles_bound, settles_round-full}
-use Rattle.rounds.proofs.Settles.{settles_next, settles_repeat}
+use Rattle.rounds.proofs.Runs.{full-last, fits-last}
+use Rattle.rounds.proofs.Settles.{settles_first-full, settles_start, settles_bound, settles_round-full}
+use Rattle.rounds.proofs.Settles.{settles_next, settles_repeat, after_settled}
 use Rattle.rounds.proofs.settle.Goals as goal
 
--- a round that found a number had room for all its lists, and the array holds the list of W(r + 1)
-round-held : (k room left : ℕ) (t : Table) (ws : List Position) {next : List ℕ} {found : Found}
-    → HoldsLast room (widest_of k t ws) (next_list k t ws) next found → found ≡ Number left
-    → (widest_of k t ws ≤ room) × (left ≤ room) × (members next left ≡ next_list k t ws)
-round-held k room left t ws h e =
-    let held = number-last h e in (held.0, omega (arith, held.0, held.1, next-within k t ws), held.2)
+pub returns-then-room-first : goal.returns-then-room-first
+returns-then-room-first g c = settles_first-full c.requires.3 (omega (arith, positions-length c.args.first.now)) refl
 
-pub returns-then-room-n : goal.returns-then-room-n
-returns-then-room-n c =
-    let given = c.args in
-    settles_first-full c.requires.5 (omega (arith, members-length given.first.now given.n (omega arith)))
+pub loop-w-init : goal.loop-w-init
+loop-w-init g c =
+    let copied = (rw c.unwrap-w.ensures at c.try_from.ensures).0 in
+    rw copied (settles_start c.requires.3 (omega (arith, positions-length c.args.first.now)))
 
-pub loop-left-init : goal.loop-left-init
-loop-left-init c =
-    let given = c.args in
-    let number = members-length given.first.now given.n (omega arith) in
-    (search rules, omega arith, rw c.copy.ensures (settles_start c.requires.5 (omega (arith, number))))
-
-pub returns-in_default : goal.returns-in_default
-returns-in_default c =
-    settles_round-full c.requires.5 c.loop-left.invariant.2 (full-last c.next_round-found.ensures
-    (full-otherwise _ c.in_default.not-Number))
-
-pub same-requires : goal.same-requires
-same-requires c =
-    let given = c.args in
-    let held = round-held given.k given.room _ (table_in given.table) (members c.loop-left.w c.loop-left.wn) c.next_round-found.ensures
-    c.in-Number.is in
-    (omega arith, omega (arith, held.1, c.next_round-found.auto.next))
+pub returns-in_err-next_round : goal.returns-in_err-next_round
+returns-in_err-next_round g c =
+    let round = rw c.deref.ensures.0 at c.next_round.ensures in
+    settles_round-full c.requires.3 c.loop-w.invariant (full-last round (ap is_err c.in_err-next_round.was)) c.from_residual.ensures.0
 
 pub overflow_add-rounds : goal.overflow_add-rounds
-overflow_add-rounds c =
+overflow_add-rounds g c =
     let given = c.args in
-    let list = c.requires.5 in
+    let list = c.requires.3 in
     omega (
       arith,
-      settles_bound list c.loop-left.invariant.2,
+      settles_bound list c.loop-w.invariant,
       rounds-few given.k (table_in given.table).controllers (omega arith) list.small.controllers,
     )
 
-pub loop-left-smaller : goal.loop-left-smaller
-loop-left-smaller c =
-    omega (arith, settles_bound c.requires.5 c.loop-left.invariant.2)
+pub loop-w-smaller : goal.loop-w-smaller
+loop-w-smaller g c = omega (arith, settles_bound c.requires.3 c.loop-w.invariant)
 
-pub loop-left-preserved : goal.loop-left-preserved
-loop-left-preserved c =
+pub loop-w-preserved : goal.loop-w-preserved
+loop-w-preserved g c =
     let given = c.args in
-    let held = round-held given.k given.room _ (table_in given.table) (members c.loop-left.w c.loop-left.wn) c.next_round-found.ensures
-    c.in-Number.is in
-    let differs : (next_list given.k (table_in given.table) (members c.loop-left.w c.loop-left.wn)
-    ≡ members c.loop-left.w c.loop-left.wn) → ⊥ =
-    λ e. clash _ (c.same.ensures.1 (sym (held.2 ∙ e))) c.if-same.false in (
-      c.next_round-found.auto.next,
-      held.1,
-      rw (add-one c.loop-left.rounds, held.2) (settles_next c.requires.5 c.loop-left.invariant.2 held.0 differs),
-    )
+    let ws = positions c.loop-w.w.items in
+    let held = fits-last (rw c.deref.ensures.0 at c.next_round.ensures) (ap is_ok c.in_ok-next_round.was) in
+    let same = rw (c.deref-in-loop-w.ensures.0, c.deref-in-loop-w-2.ensures.0) at c.same.ensures in
+    let differs : (next_list given.k (table_in given.table) ws ≡ ws) → ⊥ = λ e. clash _ (same.1 (sym (held.1 ∙ e))) c.if-same.false in
+    rw (add-one c.loop-w.rounds, held.1) (settles_next c.requires.3 c.loop-w.invariant held.0 differs)
 
-pub copy-requires-2 : goal.copy-requires-2
-copy-requires-2 c =
-    (omega arith, omega (arith, c.loop-left.invariant.1, c.requires.4))
+pub copy-requires : goal.copy-requires
+copy-requires g c =
+    let held = fits-last (rw c.deref.ensures.0 at c.next_round.ensures) (ap is_ok c.in_ok-next_round.was) in
+    let again = (rw (c.deref-in-loop-w.ensures.0, c.deref-in-loop-w-2.ensures.0) at c.same.ensures).0 c.if-same.true in
+    let done = settles_repeat c.requires.3 c.loop-w.invariant held.0 (sym held.1 ∙ sym again) refl in
+    (search rules, omega (arith, (after_settled done refl).4, ap length c.deref-2.ensures.0, c.requires.4))
 
 pub returns : goal.returns
-returns c =
-    let given = c.args in
-    let held = round-held given.k given.room _ (table_in given.table) (members c.loop-left.w c.loop-left.wn) c.next_round-found.ensures
-    c.in-Number.is in
-    let repeats = sym held.2 ∙ sym (c.same.ensures.0 c.if-same.true) in
-    settles_repeat c.requires.5 c.loop-left.invariant.2 held.0 repeats (sym (members-length c.loop-left.w c.loop-left.wn (omega arith)))
-    c.copy-2.ensures
+returns g c =
+    let held = fits-last (rw c.deref.ensures.0 at c.next_round.ensures) (ap is_ok c.in_ok-next_round.was) in
+    let repeats = (rw (c.deref-in-loop-w.ensures.0, c.deref-in-loop-w-2.ensures.0) at c.same.ensures).0 c.if-same.true in
+    rw (c.copy.ensures ∙ c.deref-2.ensures.0) (settles_repeat c.requires.3 c.loop-w.invariant held.0 (sym held.1 ∙ sym repeats) refl)

@@ -1,42 +1,33 @@
--- `lead_on`: what its invariants come to at each of the goals below; how the proof goes stands beside them. Assumes nothing.
-use mathlib.Core.Path.{sym, ap, ◌∙◌}
+-- `lead_on` tries every four: its second byte is at most 7, and the state that its last byte names is marked, which says that it has rows,
+-- since a byte is below 256. Assumes nothing.
+use mathlib.Core.Path.{ap, ◌∙◌}
+use mathlib.Core.Bool.{Bool, false, ◌&&◌}
+use mathlib.Core.List.{List, []}
+use Prim.Native.Nat.{ℕ}
 use native.Mathlib.Omega.{arith}
-use borrow.Author.Count.{below_none, below_more}
+use lib.Dec.{leb}
+use lib.ListN.{get_or}
 use borrow.Author.Rules.{rules}
+use borrow.Author.Tests.{tests}
+use Rattle.std.proofs.lemmas.Iterator.{YieldsList-from_slice}
+use Rattle.std.proofs.lemmas.Iterator.Search.{all_from_yields_List}
+use Rattle.meaning.specs.Written.{Row}
 use Rattle.meaning.specs.Play.{rows_in}
 use Rattle.meaning.specs.Controller.{leads_on}
-use Rattle.rows.specs.Placed.{row_of}
-use Rattle.rows.proofs.Reading.{every-row, not_every-row, too_loud, lost, leads}
+use Rattle.rows.proofs.Cut.{every-four, four-at}
+use Rattle.rows.proofs.Reading.{row-low}
 use Rattle.rows.proofs.lead_on.Goals as goal
 
-pub loop-i-init : goal.loop-i-init
-loop-i-init c = (search rules, below_none _)
-
-pub returns-then-row-gt7 : goal.returns-then-row-gt7
-returns-then-row-gt7 c =
-    let bytes = c.args.rows.now in
-    sym (not_every-row (leads_on (rows_in bytes)) bytes c.loop-i.i c.loop-i-test.true
-    (ap (leads_on (rows_in bytes)) (sym c.at-row.ensures) ∙ too_loud (rows_in bytes) (row_of c.at-row.result) c.if-row-gt7.true))
-
-pub returns-then-not-named-row : goal.returns-then-not-named-row
-returns-then-not-named-row c =
-    let bytes = c.args.rows.now in
-    sym (not_every-row (leads_on (rows_in bytes)) bytes c.loop-i.i c.loop-i-test.true
-    (ap (leads_on (rows_in bytes)) (sym c.at-row.ensures)
-    ∙ lost (rows_in bytes) (row_of c.at-row.result)
-    (sym (c.named-named.ensures _ (omega (arith, c.at-row.type_inv))) ∙ c.if-not-named-row.true)))
-
-pub loop-i-preserved : goal.loop-i-preserved
-loop-i-preserved c =
-    let bytes = c.args.rows.now in (
-      search rules,
-      below_more _ _ c.loop-i.invariant.1
-          (ap (leads_on (rows_in bytes)) (sym c.at-row.ensures)
-          ∙ leads (rows_in bytes) (row_of c.at-row.result) c.if-row-gt7.false
-          (sym (c.named-named.ensures _ (omega (arith, c.at-row.type_inv))) ∙ c.if-not-named-row.false)),
-    )
-
 pub returns : goal.returns
+unfolding leads_on
 returns c =
     let bytes = c.args.rows.now in
-    sym (every-row (leads_on (rows_in bytes)) bytes c.loop-i.i (omega arith) c.loop-i.invariant.1)
+    let fours = c.fours.result.now in
+    let marks = c.named-named.result in
+    let test : List ℕ → Bool = λ x. leb (get_or x 1 0) 7 && get_or marks (get_or x 3 0) false in
+    all_from_yields_List test _ _ c.all.result c.all.ensures.ran (YieldsList-from_slice fours cc) (λ x b q k. search (rules, tests))
+    ∙ every-four bytes fours c.fours.ensures (leads_on (rows_in bytes)) test
+    (λ i _.
+    let low = (row-low bytes (λ j. omega (arith, c.type_inv.rows j)) i).1 in
+    let same = ap (λ (r : Row). r.next) (four-at bytes fours c.fours.ensures i) in
+    ap (λ (b : Bool). leb (get_or (get_or fours i []) 1 0) 7 && b) (c.named-named.ensures _ (omega arith)))

@@ -1,87 +1,76 @@
--- `part`: what its invariants come to at each of the goals below; how the proof goes stands beside them. Assumes nothing.
-use mathlib.Core.Path.{◌≡◌, refl, sym, ap, ◌∙◌}
-use mathlib.Core.Bool.{true, false, not}
-use Prim.Native.Nat.{◌+◌, ◌-◌, zero-le}
+-- `part`: one more position is kept by one of the two tests and dropped by the other. Neither list holds more than the positions seen, so
+-- there is room. At the end all are seen. Assumes nothing.
+use mathlib.Core.Path.{◌≡◌, sym, ap, ◌∙◌}
+use mathlib.Core.Bool.{Bool, true, false, not}
+use Prim.Native.Nat.{ℕ, ◌<◌}
+use mathlib.Core.List.{List}
 use native.Mathlib.Omega.{arith}
-use lib.ListN.{get_or, length-set}
-use Rattle.meaning.specs.Counting.{covered}
+use lib.ListN.{length, get_or, take}
+use lib.Seq.{take-length, length-take-le}
+use Rattle.meaning.specs.Lists.{keep}
+use Rattle.meaning.specs.Counting.{Position, covered}
 use Rattle.counts.specs.Words.{counts_in}
-use Rattle.lists.specs.Members.{members}
-use Rattle.lists.proofs.Members.{members-more, members_store}
+use Rattle.lists.specs.Members.{positions}
+use Rattle.lists.proofs.Members.{positions-length, positions-more, positions-next}
 use Rattle.lists.proofs.OneMore.{keep-more, keep_past}
 use Rattle.tops.specs.Candidates.{uncovered}
+use Rattle.tops.proofs.Positions.{keep-length}
 use Rattle.tops.proofs.part.Goals as goal
 use Rattle.tops.proofs.part.Goals.{else-covers, then-covers}
 
-pub loop-i-init : goal.loop-i-init
-unfolding members
-loop-i-init c = (zero-le, zero-le, refl, refl, refl, refl)
+-- those kept of the words before a place are fewer than the words
+fewer : (set out : List ℕ) (f : Position → Bool) (i : ℕ) → i < length set → positions out ≡ keep f (positions (take i set))
+    → length out < length set
+fewer set out f i h e =
+    omega (
+      arith,
+      positions-length out,
+      ap length e,
+      keep-length f (positions (take i set)),
+      positions-length (take i set),
+      length-take-le i set (omega (arith, h)),
+    )
 
-pub loop-i-preserved : goal.loop-i-preserved
-loop-i-preserved c =
-    let given = c.args in
-    let all = given.set.now in
-    let others = members given.others.now given.m in
-    let i = c.loop-i.i in
-    let held = c.loop-i.held in
+pub loop-p-init : goal.loop-p-init
+unfolding positions
+loop-p-init g c = (rw c.clear.ensures, rw c.clear-2.ensures)
+
+pub push-requires : goal.push-requires
+push-requires g c =
+    (omega arith, omega (arith, c.requires, fewer c.args.set.now _ _ c.loop-p.p-index c.loop-p-test.true c.loop-p.invariant.0))
+
+pub push-requires-else-covers : goal.push-requires-else-covers
+push-requires-else-covers g c =
+    (omega arith, omega (arith, c.requires, fewer c.args.set.now _ _ c.loop-p.p-index c.loop-p-test.true c.loop-p.invariant.1))
+
+pub loop-p-preserved : goal.loop-p-preserved
+loop-p-preserved g c =
+    let all = c.args.set.now in
+    let others = positions c.args.others.now in
+    let i = c.loop-p.p-index in
+    let seen = positions (take i all) in
     let p = get_or all i 0 in
-    let inv = c.loop-i.invariant in
+    let inv = c.loop-p.invariant in
+    let next = positions-next all i c.loop-p-test.true in
     elim c.if-covers.branch [
       | then-covers w ↦
-          let test : covered others (counts_in p) ≡ true = sym c.covers.ensures ∙ w.if-covers.true in
-          let e : i + 1 - (held + 1) ≡ i - held = omega arith in (
-            omega arith,
-            rw w.held-is (omega arith),
-            rw (w.taken-is, length-set c.loop-i.taken held p) inv.2,
-            rw w.rest-is inv.3,
-            rw (
-              w.taken-is,
-              w.held-is,
-              members_store c.loop-i.taken held p (omega arith),
-              inv.4,
-              members-more all i (omega arith),
-              keep-more (covered others) (members all i) (counts_in p) test,
-            ),
-            rw (
-              w.rest-is,
-              w.held-is,
-              e,
-              inv.5,
-              members-more all i (omega arith),
-              keep_past (uncovered others) (members all i) (counts_in p)
-                  (ap not test),
-            ),
+          let test : covered others (counts_in p) ≡ true = sym c.covers.ensures ∙ w.if-covers.true in (
+            rw (w.taken-is, w.push.ensures.items, positions-more c.loop-p.taken.items p, inv.0, next)
+                (sym (keep-more (covered others) seen (counts_in p) test)),
+            rw (w.rest-is, inv.1, next) (sym (keep_past (uncovered others) seen (counts_in p) (ap not test))),
           )
       | else-covers w ↦
-          let test : covered others (counts_in p) ≡ false = sym c.covers.ensures ∙ w.if-covers.false in
-          let e : i + 1 - held ≡ i - held + 1 = omega arith in (
-            omega arith,
-            rw w.held-is (omega arith),
-            rw w.taken-is inv.2,
-            rw (w.rest-is, length-set c.loop-i.rest (i - held) p) inv.3,
-            rw (
-              w.taken-is,
-              w.held-is,
-              inv.4,
-              members-more all i (omega arith),
-              keep_past (covered others) (members all i) (counts_in p)
-                  test,
-            ),
-            rw (
-              w.rest-is,
-              w.held-is,
-              e,
-              members_store c.loop-i.rest (i - held) p (omega arith),
-              inv.5,
-              members-more all i (omega arith),
-              keep-more (uncovered others) (members all i) (counts_in p) (ap not test),
-            ),
+          let test : covered others (counts_in p) ≡ false = sym c.covers.ensures ∙ w.if-covers.false in (
+            rw (w.taken-is, inv.0, next) (sym (keep_past (covered others) seen (counts_in p) test)),
+            rw (w.rest-is, w.push-else-covers.ensures.items, positions-more c.loop-p.rest.items p, inv.1, next)
+                (sym (keep-more (uncovered others) seen (counts_in p) (ap not test))),
           )
     ]
 
 pub returns : goal.returns
-returns c =
+returns g c =
     let at = c.before in
-    let given = at.args in
-    let e : at.loop-i.i ≡ given.n = omega arith in
-    (omega arith, rw e at at.loop-i.invariant.4, rw e at at.loop-i.invariant.5)
+    let all = at.args.set.now in
+    let e : at.loop-p.p-index ≡ length all = omega arith in
+    let whole = rw (e, take-length all) at at.loop-p.invariant in
+    record { taken = whole.0; rest = whole.1 }

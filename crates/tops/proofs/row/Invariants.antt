@@ -1,19 +1,14 @@
--- `row`: the loop's invariant is that the kept ones are the thinned lesser counts of x and each of the first j positions, the last first;
--- there are at most j of them. The measure is the number of positions left. Assumes nothing.
+-- `row`: the loop's invariant is that the kept ones are the thinned lesser counts of x and each of the positions seen, the last first.
+-- Assumes nothing.
 use mathlib.Core.Path.{◌≡◌}
 use mathlib.Core.List.{map, reverse}
-use Prim.Native.Nat.{◌≤◌, ◌-◌}
-use lib.ListN.{length}
+use lib.ListN.{take}
 use Rattle.counts.specs.Halves.{lesser_counts}
 use Rattle.counts.specs.Words.{counts_in}
-use Rattle.lists.specs.Members.{members}
+use Rattle.lists.specs.Members.{positions}
 use Rattle.tops.specs.Tops.{thinned}
 use Rattle.tops.proofs.row.Given as goal
 
-abbrev pub invariant-loop-j : goal.invariant-loop-j
-invariant-loop-j l =
-    (l.j ≤ l.n) × (l.kept ≤ l.j) × (length l.out ≡ length l.initial.out)
-    × (members l.out l.kept ≡ thinned (reverse (map (lesser_counts (counts_in l.x)) (members l.ys l.j))))
-
-abbrev pub decreases-loop-j : goal.decreases-loop-j
-decreases-loop-j l = l.n - l.j
+abbrev pub invariant-loop-y : goal.invariant-loop-y
+invariant-loop-y l =
+    positions l.out.items ≡ thinned (reverse (map (lesser_counts (counts_in l.x)) (positions (take l.y-index l.ys))))

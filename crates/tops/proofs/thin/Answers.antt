@@ -1,34 +1,61 @@
--- `thin`: what its invariants come to at each of the goals below; how the proof goes stands beside them. Assumes nothing.
-use mathlib.Core.Path.{◌≡◌, refl, sym, ap, ◌∙◌}
-use mathlib.Core.List.{[], ◌∷◌, foldr, foldr-append}
-use Prim.Native.Nat.{◌-◌}
+-- `thin`: one position more comes first in those seen turned round, and so is thinned last. There are no more kept ones than positions
+-- seen, so there is room. At the end all are seen, turned round twice. Assumes nothing.
+use mathlib.Core.Path.{ap, ◌∙◌}
+use mathlib.Core.List.{List, [], ◌∷◌, map, map-append, reverse, reverse-append, reverse-reverse}
+use Prim.Native.Nat.{ℕ}
 use native.Mathlib.Omega.{arith}
-use lib.ListN.{get_or}
+use denote.Ref.{Bor}
+use lib.ListN.{length, length-map}
+use Rattle.std.proofs.lemmas.List.{length-reverse}
+use Rattle.std.proofs.lemmas.Iterator.Adapters.{YieldsList-from_rev_slice}
+use Rattle.std.proofs.lemmas.Iterator.Consumers.{YieldsList-turn, YieldsList-end}
 use Rattle.counts.specs.Words.{counts_in}
-use Rattle.lists.specs.Members.{thin_one, members}
-use Rattle.lists.proofs.Members.{members-last}
+use Rattle.lists.specs.Members.{positions}
+use Rattle.lists.proofs.Members.{positions-length, positions-more, positions-reverse}
 use Rattle.tops.specs.Tops.{thinned}
+use Rattle.tops.proofs.Thinned.{thinned-length}
 use Rattle.tops.proofs.thin.Goals as goal
 
-pub loop-i-init : goal.loop-i-init
-unfolding members thinned
-loop-i-init c = (omega arith, refl, refl)
+pub loop-m-init : goal.loop-m-init
+unfolding positions thinned
+loop-m-init g c = rw c.clear.ensures
 
-pub loop-i-preserved : goal.loop-i-preserved
-loop-i-preserved c =
+pub keep_top-requires : goal.keep_top-requires
+keep_top-requires g c =
     let all = c.args.set.now in
-    let i = c.loop-i.i in
-    let kept = members c.loop-i.out c.loop-i.kept in (
-      omega (arith, c.keep_top-kept.ensures.0),
-      c.keep_top-kept.auto.set ∙ c.loop-i.invariant.1,
-      rw c.keep_top-kept.ensures.1
-          (sym (foldr-append thin_one kept (members all (i - 1)) (counts_in (get_or all (i - 1) 0) ∷ []))
-          ∙ ap (foldr thin_one kept) (sym (members-last all i c.loop-i-test.true (omega arith))) ∙ c.loop-i.invariant.2),
+    let seen = map (λ (y : Bor ℕ). y.now) c.loop-m.yielded in
+    let turn = YieldsList-turn (YieldsList-from_rev_slice all cc) c.loop-m.yielded _ c.loop-m.yielded_by _ _ c.in-Some.m c.in-Some.is
+    c.next.ensures.steps in
+    omega (
+      arith,
+      turn.0,
+      c.requires,
+      positions-length c.loop-m.out.items,
+      ap length c.loop-m.invariant,
+      thinned-length (reverse (positions seen)),
+      length-reverse (positions seen),
+      positions-length seen,
+      length-map c.loop-m.yielded (λ (y : Bor ℕ). y.now),
+      length-reverse all,
+    )
+
+pub loop-m-preserved : goal.loop-m-preserved
+unfolding thinned
+loop-m-preserved g c =
+    let seen = map (λ (y : Bor ℕ). y.now) c.loop-m.yielded in
+    let m = c.in-Some.m.now in
+    rw (
+      c.keep_top.ensures,
+      c.loop-m.invariant,
+      map-append (λ (y : Bor ℕ). y.now) c.loop-m.yielded (c.in-Some.m ∷ []),
+      positions-more seen m,
+      reverse-append (positions seen) (counts_in m ∷ []),
     )
 
 pub returns : goal.returns
-unfolding members
-returns c =
-    let at = c.before in
-    let e : at.loop-i.i ≡ 0 = omega arith in
-    (omega arith, rw e at at.loop-i.invariant.2)
+returns g c =
+    let all = c.args.set.now in
+    let end = YieldsList-end (YieldsList-from_rev_slice all cc) c.loop-m.yielded _ c.loop-m.yielded_by _ _ c.in-None.is
+    c.next.ensures.steps in
+    c.loop-m.invariant
+    ∙ ap thinned (ap (λ (ws : List ℕ). reverse (positions ws)) end.0 ∙ ap reverse (positions-reverse all) ∙ reverse-reverse (positions all))

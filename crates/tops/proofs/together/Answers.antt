@@ -1,34 +1,32 @@
 -- `together`: the steps are those of the definition: the uncovered ones of the one list, and what the other adds. If there is no room for
 -- the first there is none at the end. Assumes nothing.
-use mathlib.Core.Path.{ap}
+use mathlib.Core.Path.{refl, ap}
 use mathlib.Core.List.{[]}
-use Prim.Native.Nat.{◌-◌}
 use native.Mathlib.Omega.{arith}
 use lib.ListN.{length}
 use Rattle.meaning.specs.Lists.{keep}
-use Rattle.lists.specs.Members.{members}
-use Rattle.lists.proofs.Members.{members-length}
+use Rattle.lists.specs.Members.{positions}
+use Rattle.lists.proofs.Members.{positions-length}
 use Rattle.tops.specs.Candidates.{uncovered, united}
+use Rattle.tops.proofs.Meets.{meets_none}
 use Rattle.tops.proofs.Held.{holds-full}
 use Rattle.tops.proofs.Collect.{collected_grows}
 use Rattle.tops.proofs.together.Goals as goal
 
-pub returns-then-room-n : goal.returns-then-room-n
+pub returns-then-room-len : goal.returns-then-room-len
 unfolding united
-returns-then-room-n c =
-    let given = c.args in
-    let E = members given.backs.now given.m in
-    let left = keep (uncovered E) (members given.set.now given.n) in
-    holds-full _
+returns-then-room-len g c =
+    let E = positions c.args.backs.now in
+    let left = keep (uncovered E) (positions c.args.set.now) in
+    holds-full _ refl
     (omega (
       arith,
+      c.len.ensures.value,
       collected_grows [] left E,
-      ap length {y = left} c.part-gone.ensures.2,
-      members-length c.part-gone.new.rest (given.n - c.part-gone.result)
-          (omega (arith, c.part-gone.auto.rest)),
+      ap length {y = left} c.part.ensures.rest,
+      positions-length c.part.new.rest.items,
     ))
 
 pub returns : goal.returns
 unfolding united
-returns c =
-    rw c.part-gone.ensures.2 at c.keep_list.ensures
+returns g c = rw (meets_none, c.part.ensures.rest) at c.keep_row.ensures

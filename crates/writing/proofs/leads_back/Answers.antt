@@ -1,29 +1,29 @@
--- `leads_back`: what `covers` says of the position after a round is what the definition asks of the input, since the list covers that
--- position in eight counts exactly where it covers the one that it stands for. Assumes nothing.
-use mathlib.Core.Path.{◌≡◌, sym, ◌∙◌}
+-- `leads_back`: all of the inputs, one by one, is what the word `each` says. What `covers` says of the position after a round is what the
+-- definition asks of the input, since the list covers that position in eight counts exactly where it covers the one that it stands for.
+-- Assumes nothing.
+use mathlib.Core.Path.{refl, ◌∙◌}
+use Prim.Native.Nat.{ℕ}
 use native.Mathlib.Omega.{arith}
 use borrow.Author.Rules.{rules}
-use Rattle.meaning.specs.Written.{leads_back}
+use borrow.Author.Tests.{tests}
+use Rattle.std.proofs.lemmas.Iterator.{YieldsList-from_range}
+use Rattle.std.proofs.lemmas.Iterator.Search.{all_from_yields_List}
+use Rattle.meaning.specs.Counting.{covered}
+use Rattle.meaning.specs.Written.{after_round, leads_back}
+use Rattle.counts.specs.Words.{counts_in}
 use Rattle.table.specs.Packed.{table_in}
-use Rattle.meaning.proofs.Searches.{each_more, each-fails}
+use Rattle.table.proofs.Chains.{all-range}
+use Rattle.lists.specs.Members.{positions}
 use Rattle.writing.proofs.Stepped.{covered_stepped}
 use Rattle.writing.proofs.leads_back.Goals as goal
-
-pub returns-then-not-covers : goal.returns-then-not-covers
-unfolding leads_back table_in
-returns-then-not-covers c =
-    sym (each-fails c.args.table.inputs _ c.loop-i.i c.loop-i-test.true
-    (sym (c.covers.ensures ∙ covered_stepped _ _ c.requires.0 _ _ _ _ _ c.after_round-after.ensures) ∙ c.if-not-covers.true))
-
-pub loop-i-preserved : goal.loop-i-preserved
-loop-i-preserved c = (
-  search rules,
-  each_more c.loop-i.i _ c.loop-i.invariant.1
-      (sym (c.covers.ensures ∙ covered_stepped _ _ c.requires.0 _ _ _ _ _ c.after_round-after.ensures) ∙ c.if-not-covers.false),
-)
 
 pub returns : goal.returns
 unfolding leads_back table_in
 returns c =
-    let e : c.loop-i.i ≡ c.args.table.inputs = omega arith in
-    sym (rw e at c.loop-i.invariant.1)
+    let given = c.args in
+    let t = table_in given.table in
+    let test = λ (i : ℕ). covered (positions given.list.now) (after_round given.k t given.letter i (counts_in given.p)) in
+    all_from_yields_List test _ _ _ c.all.ensures.ran
+    (YieldsList-from_range 0 given.table.inputs given.table.inputs refl (omega arith))
+    (λ i b q k. search (rules, tests, covered_stepped given.k t c.requires given.letter i (counts_in given.p)))
+    ∙ all-range given.table.inputs test

@@ -1,27 +1,22 @@
--- `output_of`: the first letter that leads back is the definition's, and where none does the search ends at the number of outputs.
--- Assumes nothing.
-use mathlib.Core.Path.{◌≡◌, sym, ◌∙◌}
-use native.Mathlib.Omega.{arith}
+-- `output_of`: what the search finds among the letters is the first that leads back. Assumes nothing.
+use mathlib.Core.Path.{◌≡◌}
+use mathlib.Core.Bool.{true, false}
 use borrow.Author.Rules.{rules}
-use borrow.Author.Count.{below_more}
-use Rattle.meaning.specs.Written.{output_of, leads_back}
-use Rattle.meaning.proofs.Tests.{first_is}
+use borrow.Author.Tests.{tests}
+use Rattle.std.proofs.lemmas.Iterator.{first_from_Range}
+use Rattle.meaning.specs.Counting.{covered}
+use Rattle.meaning.specs.Written.{leads_back, output_of}
+use Rattle.counts.specs.Words.{counts_in}
 use Rattle.table.specs.Packed.{table_in}
-use Rattle.meaning.proofs.Searches.{first-none}
+use Rattle.lists.specs.Members.{positions}
+use Rattle.writing.proofs.Chains.{first-found}
 use Rattle.writing.proofs.output_of.Goals as goal
 
-pub returns-then-leads_back : goal.returns-then-leads_back
-unfolding output_of leads_back table_in
-returns-then-leads_back c =
-    sym (first_is c.args.table.outputs _ c.loop-letter.letter c.loop-letter-test.true
-    (sym c.leads_back.ensures ∙ c.if-leads_back.true) c.loop-letter.invariant.1)
-
-pub loop-letter-preserved : goal.loop-letter-preserved
-loop-letter-preserved c =
-    (search rules, below_more _ c.loop-letter.letter c.loop-letter.invariant.1 (sym c.leads_back.ensures ∙ c.if-leads_back.false))
-
 pub returns : goal.returns
-unfolding output_of leads_back table_in
+unfolding output_of table_in
 returns c =
-    let e : c.loop-letter.letter ≡ c.args.table.outputs = omega arith in
-    e ∙ sym (first-none c.args.table.outputs _ (rw e at c.loop-letter.invariant.1))
+    let given = c.args in
+    let test = leads_back given.k (table_in given.table) (covered (positions given.list.now)) (counts_in given.p) in
+    first-found given.table.outputs test c.find.result
+    (first_from_Range _ _ _ _ (λ l. test l ≡ true) (λ l. test l ≡ false) c.find.ensures.ran (λ x q k. search (rules, tests))
+    (λ x q k. search (rules, tests)))

@@ -7,18 +7,16 @@ use native.Mathlib.Omega.{arith}
 use lib.ListN.{length, take, drop, length-append}
 use Rattle.std.proofs.lemmas.List.{length-take-le}
 use Rattle.meaning.specs.declared.Verdict.TheVariants.{Realizable}
-use Rattle.meaning.specs.Answers.{code_of, join, Joined}
+use Rattle.meaning.specs.Answers.{join, Joined}
 use Rattle.meaning.specs.Join.{joined_bytes}
 use Rattle.meaning.proofs.Answers.{join-judged}
-use Rattle.meaning.proofs.Codes.{code_realizable}
 use Rattle.cases.proofs.calls.joined.Goals as goal
 
 -- what a join writes ends within its buffer
-ends-within : (one two out : List ℕ) → code_of (join one two out).answer.verdict ≡ 0
+ends-within : (one two out : List ℕ) (s : ℕ) → (join one two out).answer.verdict ≡ Realizable s
     → (join one two out).answer.place ≤ length (join one two out).out_after
-ends-within one two out e =
+ends-within one two out s granted =
     let new = joined_bytes one two in
-    let (s, granted) = (code_realizable (join one two out).answer.verdict).0 e in
     let passes = (((join-judged one two out).granted-exactly (Realizable s) (λ r f. let z : ◌≡◌ {A = ℕ} 0 1 = cc in omega arith)).0
     granted).0 in
     rw ((join-judged one two out).grants passes) (omega (arith, length-append new (drop (length new) out)))
@@ -27,10 +25,10 @@ ends-within one two out e =
 prefix_of : (n : ℕ) (bytes : List ℕ) → n ≤ length bytes → (n ≤ length bytes) × (n ≡ length (take n bytes))
 prefix_of n bytes l = (l, sym (length-take-le n bytes l))
 
-pub returns-clause-within : goal.returns-clause-within
-returns-clause-within g c =
+pub returns-in-Realizable-clause-within : goal.returns-in-Realizable-clause-within
+returns-in-Realizable-clause-within g c =
     let e = c.join-answer.ensures in
-    let granted = ap (λ (j : Joined). code_of j.answer.verdict) (sym e) ∙ sym c.code.ensures ∙ c.if-code-ne0.false in
+    let granted = ap (λ (j : Joined). j.answer.verdict) (sym e) ∙ c.in-Realizable.is in
     let place = ap (λ (j : Joined). j.answer.place) e in
     let bytes = ap (λ (j : Joined). j.out_after) e in
-    rw (place, bytes) (prefix_of _ _ (ends-within _ _ _ granted))
+    rw (place, bytes) (prefix_of _ _ (ends-within _ _ _ _ granted))

@@ -16,8 +16,6 @@ use Rattle.table.specs.declared.Table.{Table}
 use Rattle.table.specs.Packed.{table_in}
 use Rattle.checker.specs.Followable.{Followable}
 use Rattle.checker.proofs.Counts.{safe_wide}
-use Rattle.checker.proofs.Stated.{steps-stated}
-use Rattle.checker.proofs.Tracks.{fitting}
 use Rattle.checker.proofs.keep.keeps.Goals as goal
 
 module _ (K : ℕ) (table : Table) (begins : ℕ)
@@ -34,27 +32,21 @@ module _ (K : ℕ) (table : Table) (begins : ℕ)
       let t = table_in table in
       rw begun (safe_wide K (start_position K t) (rw (start-length K t) f.bounded.small.controllers) ∙ realizes_safe K t _ realizes)
 
-pub places-places-requires : goal.places-places-requires
-places-places-requires c = (fitting c.requires).formed.few
-
-pub returns-then-not-safe : goal.returns-then-not-safe
-returns-then-not-safe c = (
-  λ e. absurd (true≢false (sym e)),
-  λ realizes.
-      absurd (clash _ (begun-safe c.args.k c.args.table c.start-begins.result c.start-begins.ensures c.requires realizes)
-      (sym c.safe.ensures ∙ c.if-not-safe.true)),
-)
-
 pub settles-requires : goal.settles-requires
 settles-requires c =
-    record {
-      followable = c.requires;
-      placed = c.places-places.ensures;
-      steps = steps-stated c.args.k c.args.table c.args.rows.now c.requires _ _ _ _
-          c.spreads-out_spreads.ensures c.marks-out_marks.ensures c.spreads-in_spreads.ensures c.marks-in_marks.ensures;
+    rw c.new.ensures
+    (record {
       starts = begun c.args.k c.args.table c.start-begins.result c.start-begins.ensures;
-      safely = sym c.safe.ensures ∙ c.if-not-safe.false;
-    }
+      safely = sym c.safe.ensures ∙ c.if-safe.true;
+    })
 
-pub returns : goal.returns
-returns c = c.settles.ensures
+pub returns-then-safe : goal.returns-then-safe
+returns-then-safe c = rw c.new.ensures at c.settles.ensures
+
+pub returns-else-safe : goal.returns-else-safe
+returns-else-safe c = (
+  λ e. absurd (true≢false (sym e ∙ c.if-safe.false)),
+  λ realizes.
+      absurd (clash _ (begun-safe c.args.k c.args.table c.start-begins.result c.start-begins.ensures c.requires realizes)
+      (sym c.safe.ensures ∙ c.if-safe.false)),
+)

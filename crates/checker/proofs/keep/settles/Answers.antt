@@ -1,136 +1,99 @@
--- `settles`: what its invariants come to at each of the goals below; how the proof goes stands beside them. Assumes nothing.
+-- `settles`: at the start the counts of the first state track the runs that visit nothing else. A flagged state has rows, so that it is led
+-- on; an overrun shows that some run overruns k, and leading on keeps the invariant, with less room or fewer flags. Where no state is
+-- flagged the rows keep every run to k. Assumes nothing.
 use mathlib.Core.Path.{◌≡◌, refl, sym, ap, ◌∙◌}
-use mathlib.Core.Bool.{Bool, true, false, true≢false}
-use mathlib.Core.List.{List}
-use Prim.Native.Nat.{ℕ, ◌<◌}
+use mathlib.Core.Bool.{true, true≢false}
+use Prim.Native.Nat.{ℕ, ◌+◌, ◌<◌}
 use native.Mathlib.Omega.{arith}
 use borrow.Author.Count.{below_none}
-use lib.ListN.{length, length-set}
-use Rattle.meaning.specs.Lists.{place}
-use Rattle.meaning.specs.Table.{Table}
-use Rattle.meaning.specs.Written.{Row}
-use Rattle.meaning.specs.Play.{rows_in}
+use lib.ListN.{length}
+use Rattle.meaning.specs.Lists.{smallest}
+use Rattle.meaning.specs.Play.{rows_in, row_next}
+use Rattle.meaning.specs.Controller.{has_rows, first_state}
 use Rattle.meaning.proofs.Formed.{first-has}
-use Rattle.rows.specs.Placed.{Ready}
 use Rattle.table.specs.Packed.{table_in}
-use Rattle.checker.specs.Begun.{Begun}
+use Rattle.checker.specs.Followable.{Followable}
+use Rattle.checker.specs.Played.{Played}
 use Rattle.checker.specs.Raised.{flag_at}
 use Rattle.checker.proofs.Room.{led_less}
-use Rattle.checker.proofs.Stepping.{inputs_read}
-use Rattle.checker.proofs.Tracks.{fitting, flag_up, no_flag, Turning, arrays-start, tracks-start, tracks_led, none_before}
-use Rattle.checker.proofs.Tracks.{tracks_overrun, tracks_end}
+use Rattle.checker.proofs.Tracks.{fitting, flag_up, no_flag, tracks-start, tracks_led, none_before, tracks_overrun, tracks_end}
 use Rattle.checker.proofs.keep.settles.Goals as goal
+use Rattle.checker.proofs.keep.settles.Goals.{After-play, In-Some}
 
--- the state that a turn leads on, once there is one: the first that is flagged
-module _ {K : ℕ} {t : Table} {rows places out_spreads in_spreads most : List ℕ} {out_marks in_marks begins from : ℕ} {risen : List Bool}
-    (begun : Begun K t rows places out_spreads out_marks in_spreads in_marks begins) (turning : Turning K t (rows_in rows) from most risen)
-    (s : ℕ) (is-first : s ≡ place (λ b. b) risen) (low : s < 256) where
-  flag : flag_at risen s ≡ true
-  flag = flag_up risen s is-first turning.arrays.flags low
+-- the rows that are played can be followed
+followable : (c : After-play) → Followable c.args.play.now.k (table_in c.args.play.now.table) c.args.play.now.rows
+followable c = rw (← c.play.view_is) c.play.invariant.0
 
-  inside : s < length risen
-  inside = omega (arith, turning.arrays.flags, low)
+-- the state that a turn leads on is flagged, and has rows
+flag : (c : In-Some) → flag_at c.loop-s.counts.risen c.in-Some.s ≡ true
+flag c = flag_up c.loop-s.counts.risen c.in-Some.s c.in-Some.ensures (omega arith)
 
-  ready : Ready rows places s
-  ready = record { formed = begun.followable.formed; placed = begun.placed; has = turning.tracks.named s flag }
+has : (c : In-Some) → has_rows (rows_in c.args.play.now.rows) c.in-Some.s ≡ true
+has c = c.loop-s.invariant.tracks.named c.in-Some.s (flag c)
 
-pub loop-table-init : goal.loop-table-init
-loop-table-init c =
-    let k = c.args.k in
-    let t = table_in c.args.table in
-    let rows = rows_in c.args.rows.now in
-    let begins = c.args.begins in
-    let begun = c.requires in
-    let first = c.at-first.result.state in
-    let is-first = ap (λ (r : Row). r.state) c.at-first.ensures in
-    let has = first-has rows (fitting begun.followable).formed in
-    let few = begun.followable.bounded.small.controllers in
-    let low : first < 256 = omega (arith, c.at-first.type_inv) in
+pub loop-s-init : goal.loop-s-init
+loop-s-init c =
+    let k = c.args.play.now.k in
+    let t = table_in c.args.play.now.table in
+    let rows = rows_in c.args.play.now.rows in
+    let f = followable (goal.at.loop-s-init c).After-play in
+    let is-first = c.first.ensures ∙ ap (λ (p : Played). first_state (rows_in p.rows)) c.play.view_is in
+    let has = first-has rows (fitting f).formed in
     record {
-      arrays = arrays-start k t rows few first is-first low begins begun.starts has begun.safely;
-      tracks = tracks-start k t rows few first is-first low begins begun.starts has begun.safely;
+      tracks = rw (c.of-counts.ensures.counts, c.of-counts.ensures.flagged)
+          (tracks-start k t rows f.bounded.small.controllers c.first.result is-first (omega arith) c.args.begins c.requires.starts has
+          c.requires.safely);
       before = record { within = omega arith; none = below_none _ };
     }
 
-pub returns-then-s-ge256 : goal.returns-then-s-ge256
-returns-then-s-ge256 c =
-    let f = c.requires.followable in
-    let turning = c.loop-table.invariant in
-    let most = c.loop-table.most in
-    let risen = c.loop-table.risen in
-    let none = no_flag risen c.first_risen-s.result c.first_risen-s.ensures turning.arrays.flags c.if-s-ge256.true in (
-      λ _. tracks_end c.args.k (table_in c.args.table) (rows_in c.args.rows.now) most risen turning.tracks
-          f.good f.declared (fitting f) none,
+pub returns-in_default : goal.returns-in_default
+returns-in_default c =
+    let p = c.args.play.now in
+    let f = followable (goal.at.returns-in_default c).After-play in
+    let counts = c.loop-s.counts in
+    let none = no_flag counts.risen (c.in_default.ensures ∙ sym counts.for_all) in (
+      λ _. tracks_end p.k (table_in p.table) (rows_in p.rows) counts.most counts.risen c.loop-s.invariant.tracks f.good f.declared
+          (fitting f) none,
       λ _. refl,
     )
 
 pub by_round-requires : goal.by_round-requires
-by_round-requires c =
-    let f = c.requires.followable in
-    let turning = c.loop-table.invariant in
-    let s = c.first_risen-s.result in
-    let low = c.if-s-ge256.false in
-    record {
-      bounds = (
-        f.bounded.patience,
-        ready c.requires turning s c.first_risen-s.ensures low,
-        sym (f.inputs ∙ inputs_read c.args.table),
-      );
-      arrays = (
-        record { counts = turning.arrays.counts; flags = length-set c.loop-table.risen s false ∙ turning.arrays.flags },
-        low,
-      );
-    }
+by_round-requires c = has (goal.at.by_round-requires c).In-Some
 
 pub returns-then-not-by_round : goal.returns-then-not-by_round
-returns-then-not-by_round c =
-    let t = table_in c.args.table in
-    let led = c.by_round.ensures t c.requires.followable c.requires.steps in (
-      λ e. absurd (true≢false (sym e)),
-      λ realizes. absurd (tracks_overrun c.args.k t (rows_in c.args.rows.now) c.loop-table.most c.loop-table.risen
-          c.loop-table.invariant.tracks c.first_risen-s.result (led.1 c.if-not-by_round.true) realizes),
-    )
+returns-then-not-by_round c = (
+  λ e. absurd (true≢false (sym e)),
+  λ realizes.
+      let p = c.args.play.now in
+      absurd (tracks_overrun p.k (table_in p.table) (rows_in p.rows) c.loop-s.counts.most c.loop-s.counts.risen c.loop-s.invariant.tracks
+      c.in-Some.s (c.by_round.ensures.1 c.if-not-by_round.true) realizes),
+)
 
 pub lowest-from-requires : goal.lowest-from-requires
-lowest-from-requires c =
-    let low = c.if-s-ge256.false in (
-      ready c.requires c.loop-table.invariant c.first_risen-s.result c.first_risen-s.ensures low,
-      sym (c.requires.followable.inputs ∙ inputs_read c.args.table),
-      low,
-    )
+lowest-from-requires c = has (goal.at.lowest-from-requires c).In-Some
 
-pub loop-table-smaller : goal.loop-table-smaller
-loop-table-smaller c =
-    let turning = c.loop-table.invariant in
-    let most = c.loop-table.most in
-    let risen = c.loop-table.risen in
-    let s = c.first_risen-s.result in
-    let is-first = c.first_risen-s.ensures in
-    let low = c.if-s-ge256.false in
-    let led = c.by_round.ensures (table_in c.args.table) c.requires.followable c.requires.steps in
-    led_less c.args.k most _ risen _ s (inside c.requires turning s is-first low) (flag c.requires turning s is-first low)
-    (c.by_round.auto.risen ∙ length-set risen s false ∙ turning.arrays.flags) (led.0 c.if-not-by_round.false).rises
+pub loop-s-smaller : goal.loop-s-smaller
+loop-s-smaller c =
+    let counts = c.loop-s.counts in
+    led_less c.args.play.now.k counts.most _ counts.risen _ c.in-Some.s (omega arith) (flag (goal.at.loop-s-smaller c).In-Some)
+    c.by_round.new.counts.for_all (c.by_round.ensures.0 c.if-not-by_round.false).rises
 
-pub loop-table-preserved : goal.loop-table-preserved
-loop-table-preserved c =
-    let k = c.args.k in
-    let t = table_in c.args.table in
-    let rows = rows_in c.args.rows.now in
-    let turning = c.loop-table.invariant in
-    let most = c.loop-table.most in
-    let risen = c.loop-table.risen in
-    let s = c.first_risen-s.result in
-    let is-first = c.first_risen-s.ensures in
-    let low = c.if-s-ge256.false in
-    let led = c.by_round.ensures t c.requires.followable c.requires.steps in
-    let all = led.0 c.if-not-by_round.false in
-    let fits = fitting c.requires.followable in
-    let in-range = inside c.requires turning s is-first low in
-    let up = flag c.requires turning s is-first low in
-    let flags = c.by_round.auto.risen ∙ length-set risen s false ∙ turning.arrays.flags in
+pub loop-s-preserved : goal.loop-s-preserved
+loop-s-preserved c =
+    let k = c.args.play.now.k in
+    let t = table_in c.args.play.now.table in
+    let rows = rows_in c.args.play.now.rows in
+    let counts = c.loop-s.counts in
+    let f = followable (goal.at.loop-s-preserved c).After-play in
+    let s = c.in-Some.s in
+    let low : s < length counts.risen = omega arith in
+    let up = flag (goal.at.loop-s-preserved c).In-Some in
+    let all = c.by_round.ensures.0 c.if-not-by_round.false in
+    let tracks = c.loop-s.invariant.tracks in
+    let last = c.lowest-from.ensures ∙ ap (λ (n : ℕ). smallest (s + 1) n (row_next rows s)) f.inputs in
     record {
-      arrays = record { counts = c.by_round.auto.most ∙ turning.arrays.counts; flags = flags };
-      tracks = tracks_led k t rows most risen turning.tracks fits s in-range up _ _ all;
-      before = rw (c.lowest-from.ensures, ← inputs_read c.args.table)
-          (none_before k t rows most risen turning.tracks fits s in-range up _ _ all flags low is-first);
+      tracks = tracks_led k t rows counts.most counts.risen tracks (fitting f) s low up _ _ all;
+      before = rw last
+          (none_before k t rows counts.most counts.risen tracks (fitting f) s low up _ _ all
+          (c.by_round.new.counts.for_all ∙ sym counts.for_all) c.in-Some.ensures);
     }

@@ -7,8 +7,9 @@ use Rattle.checker.proofs.Room.{ahead}
 use Rattle.checker.proofs.Tracks.{Turning}
 use Rattle.checker.proofs.keep.settles.Given as goal
 
-abbrev pub invariant-loop-table : goal.invariant-loop-table
-invariant-loop-table l = Turning l.k (table_in l.table) (rows_in l.rows) l.from l.most l.risen
+abbrev pub invariant-loop-s : goal.invariant-loop-s
+invariant-loop-s l =
+    Turning l.play.k (table_in l.play.table) (rows_in l.play.rows) l.from l.counts.most l.counts.risen
 
-abbrev pub decreases-loop-table : goal.decreases-loop-table
-decreases-loop-table l = ahead l.k l.most l.risen
+abbrev pub decreases-loop-s : goal.decreases-loop-s
+decreases-loop-s l = ahead l.play.k l.counts.most l.counts.risen

@@ -1,57 +1,73 @@
--- `pairs`: what its invariants come to at each of the goals below; how the proof goes stands beside them. Assumes nothing.
-use mathlib.Core.Path.{◌≡◌, refl, sym, ap, ap₂, ◌∙◌}
-use mathlib.Core.List.{List, flat_map}
-use Prim.Native.Nat.{ℕ, ◌+◌, ◌*◌, ◌≤◌, zero-le}
-use native.Mathlib.Nat.{zero-mul, add-mul, one-mul, mul-le-mul}
+-- `pairs`: there are as many pairs as the product of the two lengths, so that is past the room exactly if the list is, and before each of
+-- them there is room for one more. Each pair is one more of its row, and each row one more. Assumes nothing.
+use mathlib.Core.Path.{◌≡◌, refl, sym, ap, ◌∙◌}
+use mathlib.Core.List.{[], ◌∷◌, map, map-append, append_assoc, append-nil, flat_map}
 use native.Mathlib.Omega.{arith}
-use borrow.Author.Rules.{rules}
-use lib.ListN.{length, get_or}
+use lib.ListN.{length, get_or, take}
+use lib.Seq.{take-length}
 use Rattle.counts.specs.Words.{counts_in}
-use Rattle.lists.specs.Members.{members}
-use Rattle.lists.proofs.Members.{members-length, members-more}
-use Rattle.tops.proofs.Held.{holds-full, holds-number}
-use Rattle.join.specs.Beside.{all_beside}
-use Rattle.join.proofs.Pairs.{all-number, all_more, row_fits}
+use Rattle.lists.specs.Members.{positions}
+use Rattle.lists.proofs.Members.{positions-length, positions-more, positions-next}
+use Rattle.tops.proofs.Held.{holds-full, holds_fits}
+use Rattle.join.specs.Beside.{beside_at, all_beside}
+use Rattle.join.proofs.Pairs.{all_more, pairs-number, pairs-before}
 use Rattle.join.proofs.beside.pairs.Goals as goal
 
--- how many pairs there are
-number : (n an bn : ℕ) (a b : List ℕ) → an ≤ length a → bn ≤ length b → length (all_beside n (members a an) (members b bn)) ≡ an * bn
-number n an bn a b h l = all-number n (members a an) (members b bn) ∙ ap₂ ◌*◌ (members-length a an h) (members-length b bn l)
+pub returns-then-room-a : goal.returns-then-room-a
+returns-then-room-a g c = holds-full _ refl (rw (pairs-number c.args.n c.args.a.now c.args.b.now) c.if-room-a.true)
 
-pub overflow_mul-an : goal.overflow_mul-an
-overflow_mul-an c = omega (arith, mul-le-mul {n₂ = 256} {m₂ = 256} c.requires.0 c.requires.1)
+pub loop-x-init : goal.loop-x-init
+unfolding positions all_beside flat_map
+loop-x-init g c = rw c.clear.ensures
 
-pub returns-then-room-an : goal.returns-then-room-an
-returns-then-room-an c = holds-full _ (rw (number _ _ _ c.args.a.now c.args.b.now c.requires.2 c.requires.3) c.if-room-an.true)
+pub loop-y-init : goal.loop-y-init
+unfolding positions
+loop-y-init g c = c.loop-x.invariant ∙ sym (append-nil _)
 
-pub loop-i-init : goal.loop-i-init
-unfolding members all_beside flat_map
-loop-i-init c = (zero-le, refl, sym (zero-mul _), refl)
-
-pub append-requires : goal.append-requires
-append-requires c = (search rules, omega (arith, row_fits c.loop-i.i c.args.an c.args.bn c.loop-i-test.true))
-
-pub overflow_add-end : goal.overflow_add-end
-overflow_add-end c = omega (arith, row_fits c.loop-i.i c.args.an c.args.bn c.loop-i-test.true)
-
-pub loop-i-preserved : goal.loop-i-preserved
-loop-i-preserved c =
-    let given = c.args in
-    let i = c.loop-i.i in
-    let row : (i + 1) * given.bn ≡ i * given.bn + given.bn = add-mul i 1 given.bn
-    ∙ ap (λ (m : ℕ). i * given.bn + m) (one-mul given.bn) in (
+pub push-requires : goal.push-requires
+push-requires g c =
+    let before = pairs-before c.args.n c.args.a.now c.args.b.now c.loop-x.x-index c.loop-y.y-index _ c.loop-y.out.items c.loop-x-test.true
+    c.loop-y-test.true c.loop-y.invariant in (
       omega arith,
-      c.append.auto.out ∙ c.loop-i.invariant.1,
-      omega (arith, row, c.loop-i.invariant.2),
-      c.append.ensures
-          ∙ rw (c.loop-i.invariant.3, members-more given.a.now i (omega arith))
-          (sym (all_more given.n (members given.a.now i) (members given.b.now given.bn)
-          (counts_in (get_or given.a.now i 0)))),
+      omega (arith, before, c.if-room-a.false, c.requires),
     )
 
+pub loop-y-preserved : goal.loop-y-preserved
+loop-y-preserved g c =
+    let given = c.args in
+    let j = c.loop-y.y-index in
+    let rows = all_beside given.n (positions (take c.loop-x.x-index given.a.now)) (positions given.b.now) in
+    let row = beside_at given.n (counts_in (get_or given.a.now c.loop-x.x-index 0)) in
+    let seen = positions (take j given.b.now) in
+    rw (
+      c.push.ensures.items,
+      positions-more c.loop-y.out.items c.beside.result,
+      c.beside.ensures,
+      c.loop-y.invariant,
+      positions-next given.b.now j c.loop-y-test.true,
+      map-append row seen (counts_in (get_or given.b.now j 0) ∷ []),
+    )
+    (append_assoc rows (map row seen) (row (counts_in (get_or given.b.now j 0)) ∷ []))
+
+pub loop-x-preserved : goal.loop-x-preserved
+loop-x-preserved g c =
+    let given = c.args in
+    let i = c.loop-x.x-index in
+    let all : c.loop-y.y-index ≡ length given.b.now = omega arith in
+    rw (
+      positions-next given.a.now i c.loop-x-test.true,
+      all_more given.n (positions (take i given.a.now)) (positions given.b.now)
+          (counts_in (get_or given.a.now i 0)),
+    )
+    (rw (all, take-length given.b.now) at c.loop-y.invariant)
+
 pub returns : goal.returns
-returns c =
-    let all : c.loop-i.i ≡ c.args.an = omega arith in
-    let held = rw all at c.loop-i.invariant.3 in
-    let end : c.loop-i.end ≡ c.args.an * c.args.bn = rw all at c.loop-i.invariant.2 in
-    holds-number _ (omega (arith, end, c.if-room-an.false)) (omega (arith, end, c.if-room-an.false, c.loop-i.invariant.1)) held
+returns g c =
+    let given = c.args in
+    let all : c.loop-x.x-index ≡ length given.a.now = omega arith in
+    let held = rw (all, take-length given.a.now) at c.loop-x.invariant in
+    holds_fits _ (omega (
+      arith,
+      sym (positions-length c.loop-x.out.items) ∙ ap length held ∙ pairs-number given.n given.a.now given.b.now,
+      c.if-room-a.false,
+    )) held

@@ -1,17 +1,19 @@
--- `pairs`: the loop's invariant is that `out` holds the pairs of the first i of the first list, one row after another. The measure is how
--- many of the first list are left. There are as many pairs as the product of the two numbers, so that is past the room exactly if the
--- list is. Assumes nothing.
+-- `pairs`: the outer loop's invariant is that `out` holds the pairs of the positions of the first list that were gone over, row by row;
+-- the inner one's, that after these it holds the pairs of the next position with those of the second list that were gone over. Assumes
+-- nothing.
 use mathlib.Core.Path.{◌≡◌}
-use Prim.Native.Nat.{◌-◌, ◌*◌, ◌≤◌}
-use lib.ListN.{length}
-use Rattle.lists.specs.Members.{members}
-use Rattle.join.specs.Beside.{all_beside}
+use mathlib.Core.List.{◌++◌, map}
+use lib.ListN.{take}
+use Rattle.counts.specs.Words.{counts_in}
+use Rattle.lists.specs.Members.{positions}
+use Rattle.join.specs.Beside.{beside_at, all_beside}
 use Rattle.join.proofs.beside.pairs.Given as goal
 
-abbrev pub invariant-loop-i : goal.invariant-loop-i
-invariant-loop-i l =
-    (l.i ≤ l.an) × (length l.out ≡ length l.initial.out) × (l.end ≡ l.i * l.bn)
-    × (members l.out l.end ≡ all_beside l.n (members l.a l.i) (members l.b l.bn))
+abbrev pub invariant-loop-x : goal.invariant-loop-x
+invariant-loop-x g l = positions l.out.items ≡ all_beside l.n (positions (take l.x-index l.a)) (positions l.b)
 
-abbrev pub decreases-loop-i : goal.decreases-loop-i
-decreases-loop-i l = l.an - l.i
+abbrev pub invariant-loop-y : goal.invariant-loop-y
+invariant-loop-y g l =
+    positions l.out.items
+    ≡ all_beside l.n (positions (take l.x-index l.a)) (positions l.b)
+    ++ map (beside_at l.n (counts_in l.x)) (positions (take l.y-index l.b))

@@ -1,166 +1,174 @@
 -- `in_turn`: each return is one stage's: FULL of a table alone, FULL of the list of pairs, and the last stage. The tables that were read
 -- are those of the bytes, so the two lists of winners alone, paired, are the list of pairs that the last stage begins with. Assumes
 -- nothing.
-use mathlib.Core.Path.{◌≡◌, sym, ap, ◌∙◌}
+use mathlib.Core.Path.{◌≡◌, refl, sym, ap, ◌∙◌}
 use mathlib.Core.Bool.{true}
 use mathlib.Core.List.{List}
 use Prim.Native.Nat.{ℕ}
 use native.Mathlib.Omega.{arith}
-use Rattle.meaning.specs.declared.Refusal.TheVariants.{Full}
+use borrow.Author.Rules.{rules}
+use borrow.Author.Tests.{tests}
+use lib.ListN.{length}
+use Rattle.std.specs.Prelude.{Result, is_ok, is_err}
+use Rattle.std.specs.Result.{IsErrAnd}
+use Rattle.meaning.specs.declared.Answer.{Answer}
+use Rattle.meaning.specs.declared.Fault.{Fault}
+use Rattle.meaning.specs.declared.Refusal.TheVariants as R
 use Rattle.meaning.specs.Checks.{check}
+use Rattle.meaning.specs.Answers.{told, fault_of, solved, unsolved}
+use Rattle.meaning.specs.Counting.{Position}
 use Rattle.meaning.specs.Rounds.{all_safe}
-use Rattle.meaning.specs.Table.{Table, stated}
+use Rattle.meaning.specs.Table.{stated}
 use Rattle.meaning.proofs.Sound.{passes-small}
 use Rattle.meaning.proofs.Buffers.{room-grants}
 use Rattle.table.specs.declared.Table as T
 use Rattle.table.specs.Packed.{packed, table_in}
-use Rattle.table.proofs.Judged.{passes-none-fails}
-use Rattle.lists.specs.Members.{members}
-use Rattle.lists.proofs.Members.{members-length}
-use Rattle.tops.proofs.Held.{full-held, number-held}
-use Rattle.rounds.specs.declared.Settled.{Settled}
-use Rattle.rounds.specs.declared.Settled.TheVariants as S
+use Rattle.lists.specs.Members.{positions}
+use Rattle.lists.proofs.Members.{positions-length}
+use Rattle.tops.specs.declared.Full.{Full}
+use Rattle.tops.proofs.Held.{full-held, fits-held}
 use Rattle.rounds.specs.Rounds.{Settles}
-use Rattle.rounds.proofs.Settles.{after_settled}
-use Rattle.joined.specs.declared.pair.Readings.{Readings}
+use Rattle.joined.specs.declared.pair.Tables.{Tables}
 use Rattle.joined.specs.Joined.{ReadBoth}
-use Rattle.joined.proofs.Paired.{read-joinable, read_first, first-stated, second-stated}
+use Rattle.joined.proofs.Paired.{read-passes, read-joinable, read_first, first-stated, second-stated}
+use Rattle.game.proofs.InOrder.{told-passed}
 use Rattle.join.specs.Beside.{all_beside}
-use Rattle.join.specs.Parts.{FirstPairs}
-use Rattle.join.proofs.Settles.{refusal-leaves}
-use Rattle.join.proofs.Stages.{checks-pass, pairs-listed, first-full, second-full, pairs-full, pairs_passed, first-output, second-output}
+use Rattle.join.proofs.Settles.{told-full, told-ended}
+use Rattle.join.proofs.Stages.{Alone, first-full, second-full, Listed, alone_listed, first-output, second-output}
 use Rattle.join.proofs.stage.in_turn.Goals as goal
+use Rattle.join.proofs.stage.in_turn.Goals.{In_ok-map_err-2}
 
--- the rounds of a table alone, from all safe positions
-abbrev Alone : ℕ → Table → ℕ → List ℕ → Settled → Type 0
-Alone k t room out settled = Settles k t (all_safe k t.controllers) room out settled
+-- FULL of a table
+abbrev full : ℕ → Fault
+full which = fault_of (check R.Full 0 which true)
 
-module _ (one two : List ℕ) (read : Readings) (both : ReadBoth one two read) where
+-- what is left where it is passed on
+left : (which : ℕ) (win con : List ℕ) (result : Result Answer Fault) (fault : Fault) → IsErrAnd result (λ f. f ≡ fault)
+    → fault ≡ full which → solved (told result) win con ≡ unsolved win con (check R.Full 0 which true)
+unfolding unsolved
+left which win con result fault e same =
+    ap (λ (a : Answer). solved a win con) (told-passed result fault e)
+    ∙ ap (λ (f : Fault). unsolved win con (check f.refusal f.place f.which true)) same
+
+module _ (one two : List ℕ) {tables : Tables} (both : ReadBoth one two tables) where
   -- the first table's number of states
-  states : read.first.controllers ≡ (stated one).controllers
+  states : tables.first.controllers ≡ (stated one).controllers
   unfolding packed
   states = ap {B = ℕ} (λ (t : T.Table). t.controllers) (read_first one two both)
 
-  module _ (k room : ℕ) where
-    -- the tables that were read are those of the bytes
-    alone-first : {ones : List ℕ} {first : Settled} → Alone k (table_in read.first) room ones first → Alone k (stated one) room ones first
+  -- the tables that were read are those of the bytes
+  module _ {K N : ℕ} {out : List ℕ} {settled : Result ℕ Full} where
+    alone-first : Settles K (table_in tables.first) (all_safe K (table_in tables.first).controllers) N out settled
+        → Alone K N one out settled
     alone-first h = rw (first-stated one two both) at h
 
-    alone-second : {twos : List ℕ} {second : Settled} → Alone k (table_in read.second) room twos second
-        → Alone k (stated two) room twos second
+    alone-second : Settles K (table_in tables.second) (all_safe K (table_in tables.second).controllers) N out settled
+        → Alone K N two out settled
     alone-second h = rw (second-stated one two both) at h
 
-    -- the pairs of the winners alone
-    pairs-held : {ones twos : List ℕ} {first second : Settled} {r an r' bn : ℕ}
-        → Alone k (table_in read.first) room ones first → first ≡ S.After r an
-        → Alone k (table_in read.second) room twos second → second ≡ S.After r' bn
-        → FirstPairs one two k (all_beside read.first.controllers (members ones an) (members twos bn))
-    pairs-held h after other after' =
-        pairs-listed one two (checks-pass one two both) k _ _ _ states
-        (after_settled (alone-first h) after).3 (after_settled (alone-second other) after').3
-
-pub settle_all-alone_first-requires : goal.settle_all-alone_first-requires
-settle_all-alone_first-requires c =
+pub settle_all-requires : goal.settle_all-requires
+settle_all-requires c =
     let one = c.args.first.now in
     let two = c.args.second.now in
     let room = room-grants c.args.room c.args.winners.now c.args.controller.now c.requires.1 in
     rw (first-stated one two c.requires.2) (
-      c.requires.0,
-      room.some,
-      room.within,
-      room.within,
-      passes-small 0 one (passes-none-fails 0 one (read-joinable one two c.requires.2).first),
-      first-output one two (checks-pass one two c.requires.2),
+      omega arith,
+      (
+        c.requires.0,
+        room.some,
+        room.within,
+        passes-small 0 one (read-joinable one two c.requires.2).first,
+        first-output one two (read-passes one two c.requires.2),
+        room.within,
+      ),
     )
 
-pub returns-in_default : goal.returns-in_default
-returns-in_default c =
+pub returns-in_err-map_err : goal.returns-in_err-map_err
+returns-in_err-map_err c =
     let one = c.args.first.now in
     let two = c.args.second.now in
     let win = c.args.winners.now in
     let con = c.args.controller.now in
-    refusal-leaves win con (check Full 0 1 true) c.refused.ensures
-    ∙ sym (first-full one two c.args.k c.args.room win con (checks-pass one two c.requires.2)
-    (alone-first _ _ _ c.requires.2 _ _ c.settle_all-alone_first.ensures) c.in_default.is)
+    let stopped = told-full _ 1 (λ f g k. search (rules, tests)) _ c.map_err.result c.map_err.ensures.cases c.in_err-map_err.was in
+    left 1 win con _ _ c.from_residual.ensures.1 stopped.2
+    ∙ sym (first-full one two c.args.k c.args.room win con (read-passes one two c.requires.2)
+    (alone-first one two c.requires.2 c.settle_all.ensures) stopped.1)
 
-pub settle_all-alone_second-requires : goal.settle_all-alone_second-requires
-settle_all-alone_second-requires c =
+pub settle_all-requires-2 : goal.settle_all-requires-2
+settle_all-requires-2 c =
     let one = c.args.first.now in
     let two = c.args.second.now in
     let room = room-grants c.args.room c.args.winners.now c.args.controller.now c.requires.1 in
     rw (second-stated one two c.requires.2) (
-      c.requires.0,
-      room.some,
-      room.within,
-      room.within,
-      passes-small 0 two (passes-none-fails 0 two (read-joinable one two c.requires.2).second),
-      second-output one two (checks-pass one two c.requires.2),
+      omega arith,
+      (
+        c.requires.0,
+        room.some,
+        room.within,
+        passes-small 0 two (read-joinable one two c.requires.2).second,
+        second-output one two (read-passes one two c.requires.2),
+        room.within,
+      ),
     )
 
-pub returns-in_default-alone_second : goal.returns-in_default-alone_second
-returns-in_default-alone_second c =
+-- after the second table's rounds have ended, what the two came to
+module _ (c : In_ok-map_err-2) where
+  abbrev one : List ℕ
+  one = c.args.first.now
+
+  abbrev two : List ℕ
+  two = c.args.second.now
+
+  abbrev win : List ℕ
+  win = c.args.winners.now
+
+  abbrev con : List ℕ
+  con = c.args.controller.now
+
+  -- the pairs of the winners alone
+  abbrev paired : List Position
+  paired = all_beside c.args.tables.first.controllers (positions c.settle_all.new.out.items) (positions c.settle_all-2.new.out.items)
+
+  pairs-listed : Listed one two c.args.k c.args.room win con paired
+  pairs-listed =
+      alone_listed one two c.args.k c.args.room win con (read-passes one two c.requires.2)
+      (alone-first one two c.requires.2 c.settle_all.ensures)
+      (told-ended _ _ c.map_err.result c.map_err.ensures.cases c.in_ok-map_err.was)
+      (alone-second one two c.requires.2 c.settle_all-2.ensures)
+      (told-ended _ _ c.map_err-2.result c.map_err-2.ensures.cases c.in_ok-map_err-2.was) _ (states one two c.requires.2)
+
+pub returns-in_err-map_err-2 : goal.returns-in_err-map_err-2
+returns-in_err-map_err-2 c =
     let one = c.args.first.now in
     let two = c.args.second.now in
     let win = c.args.winners.now in
     let con = c.args.controller.now in
-    refusal-leaves win con (check Full 0 2 true) c.refused-in_default-alone_second.ensures
-    ∙ sym (second-full one two c.args.k c.args.room win con (checks-pass one two c.requires.2)
-    (alone-first _ _ _ c.requires.2 _ _ c.settle_all-alone_first.ensures) c.in-After.is
-    (alone-second _ _ _ c.requires.2 _ _ c.settle_all-alone_second.ensures) c.in_default-alone_second.is)
+    let stopped = told-full _ 2 (λ f g k. search (rules, tests)) _ c.map_err-2.result c.map_err-2.ensures.cases c.in_err-map_err-2.was in
+    left 2 win con _ _ c.from_residual-in_err-map_err-2.ensures.1 stopped.2
+    ∙ sym (second-full one two c.args.k c.args.room win con (read-passes one two c.requires.2)
+    (alone-first one two c.requires.2 c.settle_all.ensures)
+    (told-ended _ _ c.map_err.result c.map_err.ensures.cases c.in_ok-map_err.was)
+    (alone-second one two c.requires.2 c.settle_all-2.ensures) stopped.1)
 
-pub pairs-found-requires : goal.pairs-found-requires
-pairs-found-requires c =
-    let most = (room-grants c.args.room c.args.winners.now c.args.controller.now c.requires.1).within in
-    let few = (after_settled (alone-first _ _ _ c.requires.2 _ _ c.settle_all-alone_first.ensures) c.in-After.is).4 in
-    let fewer = (after_settled (alone-second _ _ _ c.requires.2 _ _ c.settle_all-alone_second.ensures) c.in-After-alone_second.is).4 in (
-      omega (arith, few, most),
-      omega (arith, fewer, most),
-      omega (arith, few, most, c.settle_all-alone_first.auto.out),
-      omega (arith, fewer, most, c.settle_all-alone_second.auto.out),
-      most,
-    )
-
-pub returns-in_default-found : goal.returns-in_default-found
-returns-in_default-found c =
-    let one = c.args.first.now in
-    let two = c.args.second.now in
-    let win = c.args.winners.now in
-    let con = c.args.controller.now in
-    refusal-leaves win con (check Full 0 0 true) c.refused-in_default-found.ensures
-    ∙ sym (pairs-full one two c.args.k c.args.room win con (checks-pass one two c.requires.2)
-    (alone-first _ _ _ c.requires.2 _ _ c.settle_all-alone_first.ensures) c.in-After.is
-    (alone-second _ _ _ c.requires.2 _ _ c.settle_all-alone_second.ensures) c.in-After-alone_second.is _
-    (pairs-held _ _ _ c.requires.2 _ _ c.settle_all-alone_first.ensures c.in-After.is c.settle_all-alone_second.ensures
-    c.in-After-alone_second.is)
-    (full-held c.pairs-found.ensures c.in_default-found.is))
-
-pub last-requires : goal.last-requires
-last-requires c =
+pub pairs-requires : goal.pairs-requires
+pairs-requires c =
     let room = room-grants c.args.room c.args.winners.now c.args.controller.now c.requires.1 in
-    let held = number-held c.pairs-found.ensures c.in-Number.is in
-    record {
-      pass = c.requires;
-      pairs = (
-        omega (arith, held.0, room.within, c.pairs-found.auto.out),
-        rw held.1 (pairs-held _ _ _ c.requires.2 _ _ c.settle_all-alone_first.ensures c.in-After.is c.settle_all-alone_second.ensures
-            c.in-After-alone_second.is),
-      );
-    }
+    (omega arith, (c.deref.ensures.1, c.deref-2.ensures.1, room.within))
+
+pub returns-in_err-pairs : goal.returns-in_err-pairs
+returns-in_err-pairs c =
+    left 0 c.args.winners.now c.args.controller.now _ (full 0) c.from_residual-in_err-pairs.ensures.1 refl
+    ∙ sym ((pairs-listed (goal.at.returns-in_err-pairs c).In_ok-map_err-2).crowded
+    (rw (c.deref.ensures.0, c.deref-2.ensures.0) at (full-held c.pairs.ensures (ap is_err c.in_err-pairs.was))))
+
+pub last-requires-clause-pairs : goal.last-requires-clause-pairs
+last-requires-clause-pairs c =
+    let held = rw (c.deref.ensures.0, c.deref-2.ensures.0) at (fits-held c.pairs.ensures (ap is_ok c.in_ok-pairs.was)) in
+    rw (c.deref-3.ensures.0, held.1) (pairs-listed (goal.at.last-requires-clause-pairs c).In_ok-map_err-2).stands
 
 pub returns : goal.returns
 returns c =
-    let one = c.args.first.now in
-    let two = c.args.second.now in
-    let room = room-grants c.args.room c.args.winners.now c.args.controller.now c.requires.1 in
-    let held = number-held c.pairs-found.ensures c.in-Number.is in
+    let held = rw (c.deref.ensures.0, c.deref-2.ensures.0) at (fits-held c.pairs.ensures (ap is_ok c.in_ok-pairs.was)) in
     c.last.ensures
-    ∙ sym (pairs_passed one two c.args.k c.args.room c.args.winners.now c.args.controller.now (checks-pass one two c.requires.2)
-    (alone-first _ _ _ c.requires.2 _ _ c.settle_all-alone_first.ensures) c.in-After.is
-    (alone-second _ _ _ c.requires.2 _ _ c.settle_all-alone_second.ensures) c.in-After-alone_second.is _
-    (pairs-held _ _ _ c.requires.2 _ _ c.settle_all-alone_first.ensures c.in-After.is c.settle_all-alone_second.ensures
-    c.in-After-alone_second.is)
-    (rw (← held.1) (omega (
-      arith,
-      held.0,
-      members-length c.pairs-found.new.out c.in-Number.n (omega (arith, held.0, room.within, c.pairs-found.auto.out)),
-    ))))
+    ∙ sym ((pairs-listed (goal.at.returns c).In_ok-map_err-2).roomy
+    (omega (arith, held.0, ap length held.1, positions-length c.pairs.new.out.items)))

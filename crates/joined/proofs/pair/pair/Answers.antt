@@ -1,94 +1,114 @@
--- `pair` answers with the first check of two tables that fails, and with what was read of each: where both tables pass 4 to 10, what is
--- left to judge are 13 and 14, and what was read of the tables states their letters and sizes. Assumes nothing.
-use mathlib.Core.Path.{◌≡◌, sym, ◌∙◌}
-use mathlib.Core.Bool.{false}
+-- `pair` answers with the fault of the first table, then of the second, then with 13 and 14: where both tables pass 4 to 10, the tables
+-- that were read state their letters and sizes. Assumes nothing.
+use mathlib.Core.Path.{◌≡◌, sym, ap, ◌∙◌}
+use mathlib.Core.Bool.{true, false}
 use mathlib.Core.List.{List}
 use Prim.Native.Nat.{ℕ, ◌≤◌}
 use native.Mathlib.Omega.{arith}
-use borrow.Author.Tests.{eq-eqb, ne_eqb, lt-ltb, le-ltb}
-use Rattle.meaning.specs.Checks.{table_checks}
-use Rattle.table.specs.declared.Checked.TheVariants as T
-use Rattle.table.specs.declared.Reading.{Reading}
+use borrow.Author.Rules.{rules}
+use borrow.Author.Tests.{tests, eq-eqb, ne_eqb, lt-ltb, le-ltb}
+use Rattle.std.specs.Prelude.{Result, Ok, Err}
+use Rattle.std.specs.Result.{MatchResult, IsErrAnd}
+use Rattle.std.proofs.lemmas.Result.{err_from_is_err_and}
+use Rattle.meaning.specs.declared.Fault.{Fault}
+use Rattle.meaning.specs.Checks.{check}
+use Rattle.meaning.specs.Answers.{fault_of}
 use Rattle.table.specs.declared.Table.{Table}
-use Rattle.table.specs.Checked.{checked_of, reading_of}
-use Rattle.table.proofs.Judged.{reading_checked, reading-table}
-use Rattle.joined.proofs.Paired.{readings-of, first-fails, second-fails, Both, letters_differ, letters_fail, size-fails, all_pass}
-use Rattle.joined.proofs.Paired.{few-states}
+use Rattle.table.specs.Checked.{reading_of}
+use Rattle.table.proofs.Judged.{passes-none-fails, reading-table}
+use Rattle.joined.proofs.Paired.{first-fails, second-fails, sizes_left, few-states, letters_differ, size_over}
 use Rattle.joined.proofs.pair.pair.Goals as goal
-use Rattle.joined.proofs.pair.pair.Goals.{then-left-right-via-else-left-right+then-left-right-2, then-left-right-via-then-left-right}
-use Rattle.joined.proofs.pair.pair.Goals.{then-left-right-gt8-via-else-left-right-gt8+then-left-right-gt8-2}
-use Rattle.joined.proofs.pair.pair.Goals.{then-left-right-gt8-via-then-left-right-gt8}
+use Rattle.joined.proofs.pair.pair.Goals.{then-first-second-gt8-via-then-first-second-gt8}
+use Rattle.joined.proofs.pair.pair.Goals.{then-first-second-gt8-via-else-first-second-gt8+then-first-second-gt8-2}
+use Rattle.joined.proofs.pair.pair.Goals.{then-first-second-via-then-first-second}
+use Rattle.joined.proofs.pair.pair.Goals.{then-first-second-via-else-first-second+then-first-second-2}
 
--- a table that passes, as it was read
-module _ (bytes : List ℕ) (r : Reading) (was_read : r ≡ reading_of bytes) (pass : r.checked ≡ T.Passes) where
-  passes : checked_of (table_checks 0 bytes) ≡ T.Passes
-  passes = sym (reading_checked bytes was_read) ∙ pass
+-- what is told of a table whose faults are told anew
+module _ (which : ℕ) (anew : Fault → Fault → Type 0)
+    (same : (f g : Fault) → anew f g → g ≡ fault_of (check f.refusal f.place which true)) (bytes : List ℕ) where
+  of_fault : (read told : Result Table Fault) → read ≡ reading_of bytes → MatchResult read (λ t. told ≡ Ok t) (λ f. IsErrAnd told (anew f))
+      → (g : Fault) → told ≡ Err g → (f : Fault) × (reading_of bytes ≡ Err f) × (g ≡ fault_of (check f.refusal f.place which true))
+  of_fault (Ok t) told r m g e = let clash : Ok t ≡ Err g = sym m ∙ e in absurd cc
+  of_fault (Err f) told r m g e = (f, sym r, same f g (rw e at m))
 
-  few : (r.table.controllers ≤ 8) × (r.table.worlds ≤ 8)
-  few = few-states bytes r.table (reading-table bytes was_read pass) passes
+  of_table : (read told : Result Table Fault) → read ≡ reading_of bytes → MatchResult read (λ t. told ≡ Ok t) (λ f. IsErrAnd told (anew f))
+      → (t : Table) → told ≡ Ok t → reading_of bytes ≡ Ok t
+  of_table (Ok u) told r m t e = sym r ∙ sym m ∙ e
+  of_table (Err f) told r m t e = absurd (rw e at m)
 
--- both pass
-both : (one two : List ℕ) (r s : Reading) → r ≡ reading_of one → s ≡ reading_of two → r.checked ≡ T.Passes → s.checked ≡ T.Passes
-    → Both one two r.table s.table
-both one two r s first second p q =
-    record {
-      first = passes one r first p;
-      second = passes two s second q;
-      first_read = reading-table one first p;
-      second-read = reading-table two second q;
-    }
+few : (bytes : List ℕ) (t : Table) → reading_of bytes ≡ Ok t → (t.controllers ≤ 8) × (t.worlds ≤ 8)
+few bytes t e = few-states bytes t (reading-table bytes e) (passes-none-fails bytes e 0)
+
+pub returns-in_err-first : goal.returns-in_err-first
+returns-in_err-first c =
+    let p = err_from_is_err_and c.from_residual.result c.from_residual.ensures.1 in
+    let fault = of_fault 1 _ (λ f g k. search (rules, tests)) _ _ c.map_err.result c.check.ensures c.map_err.ensures.cases _
+    c.in_err-first.was in
+    rw (p.1, p.2) (ap Err fault.2 ∙ sym (first-fails _ _ fault.1))
+
+pub returns-in_err-second : goal.returns-in_err-second
+returns-in_err-second c =
+    let first = of_table 1 _ (λ f g k. search (rules, tests)) _ _ c.map_err.result c.check.ensures c.map_err.ensures.cases _
+    c.in_ok-first.was in
+    let p = err_from_is_err_and c.from_residual-in_err-second.result c.from_residual-in_err-second.ensures.1 in
+    let fault = of_fault 2 _ (λ f g k. search (rules, tests)) _ _ c.map_err-2.result c.check-2.ensures c.map_err-2.ensures.cases _
+    c.in_err-second.was in
+    rw (p.1, p.2) (ap Err fault.2 ∙ sym (second-fails _ _ first fault.1))
+
+pub returns-then-first-second : goal.returns-then-first-second
+returns-then-first-second c =
+    let first = of_table 1 _ (λ f g k. search (rules, tests)) _ _ c.map_err.result c.check.ensures c.map_err.ensures.cases _
+    c.in_ok-first.was in
+    let second = of_table 2 _ (λ f g k. search (rules, tests)) _ _ c.map_err-2.result c.check-2.ensures c.map_err-2.ensures.cases _
+    c.in_ok-second.was in
+    let differ : letters_differ c.in_ok-first.first c.in_ok-second.second ≡ true = elim c.then-first-second.branch [
+      | then-first-second-via-then-first-second w ↦ rw (ne_eqb _ _ w.if-first-second.true)
+      | then-first-second-via-else-first-second+then-first-second-2 w ↦
+          rw (eq-eqb _ _ w.if-first-second.false, ne_eqb _ _ w.if-first-second-2.true)
+    ] in
+    rw c.at.ensures (sym (sizes_left _ _ first second ∙ rw differ))
+
+pub overflow_add-first : goal.overflow_add-first
+overflow_add-first c =
+    let first = of_table 1 _ (λ f g k. search (rules, tests)) _ _ c.map_err.result c.check.ensures c.map_err.ensures.cases _
+    c.in_ok-first.was in
+    let second = of_table 2 _ (λ f g k. search (rules, tests)) _ _ c.map_err-2.result c.check-2.ensures c.map_err-2.ensures.cases _
+    c.in_ok-second.was in
+    omega (arith, few _ _ first, few _ _ second)
+
+pub overflow_add-first-else-first-second-gt8 : goal.overflow_add-first-else-first-second-gt8
+overflow_add-first-else-first-second-gt8 c =
+    let first = of_table 1 _ (λ f g k. search (rules, tests)) _ _ c.map_err.result c.check.ensures c.map_err.ensures.cases _
+    c.in_ok-first.was in
+    let second = of_table 2 _ (λ f g k. search (rules, tests)) _ _ c.map_err-2.result c.check-2.ensures c.map_err-2.ensures.cases _
+    c.in_ok-second.was in
+    omega (arith, few _ _ first, few _ _ second)
 
 -- their letters are the same
 same-letters : (t u : Table) → t.outputs ≡ u.outputs → t.inputs ≡ u.inputs → letters_differ t u ≡ false
 same-letters t u p q = rw (eq-eqb _ _ p, eq-eqb _ _ q)
 
-pub returns-in-Fails : goal.returns-in-Fails
-returns-in-Fails c =
-    let one = c.args.first.now in
-    let two = c.args.second.now in
-    readings-of one two c.with_tables.ensures c.check-one.ensures c.check-two.ensures
-    (first-fails one two (sym (reading_checked one c.check-one.ensures) ∙ c.in-Fails.is))
-
-pub returns-in-Fails-two_checked : goal.returns-in-Fails-two_checked
-returns-in-Fails-two_checked c =
-    let one = c.args.first.now in
-    let two = c.args.second.now in
-    readings-of one two c.with_tables-in-Fails-two_checked.ensures c.check-one.ensures c.check-two.ensures
-    (second-fails one two (passes one c.check-one.result c.check-one.ensures c.in_default.is)
-    (sym (reading_checked two c.check-two.ensures) ∙ c.in-Fails-two_checked.is))
-
-pub returns-then-left-right : goal.returns-then-left-right
-returns-then-left-right c =
-    readings-of _ _ c.with_tables-then-left-right.ensures c.check-one.ensures c.check-two.ensures
-    (letters_fail _ _ _ _ (both _ _ _ _ c.check-one.ensures c.check-two.ensures c.in_default.is c.in_default-two_checked.is)
-    (elim c.then-left-right.branch [
-      | then-left-right-via-then-left-right w ↦ rw (ne_eqb _ _ w.if-left-right.true)
-      | then-left-right-via-else-left-right+then-left-right-2 w ↦
-          rw (eq-eqb _ _ w.if-left-right.false, ne_eqb _ _ w.if-left-right-2.true)
-    ]))
-
-pub overflow_add-left : goal.overflow_add-left
-overflow_add-left c =
-    omega (arith, few _ _ c.check-one.ensures c.in_default.is, few _ _ c.check-two.ensures c.in_default-two_checked.is)
-
-pub overflow_add-left-else-left-right-gt8 : goal.overflow_add-left-else-left-right-gt8
-overflow_add-left-else-left-right-gt8 c =
-    omega (arith, few _ _ c.check-one.ensures c.in_default.is, few _ _ c.check-two.ensures c.in_default-two_checked.is)
-
-pub returns-then-left-right-gt8 : goal.returns-then-left-right-gt8
-returns-then-left-right-gt8 c =
-    readings-of _ _ c.with_tables-then-left-right-gt8.ensures c.check-one.ensures c.check-two.ensures
-    (size-fails _ _ _ _ (both _ _ _ _ c.check-one.ensures c.check-two.ensures c.in_default.is c.in_default-two_checked.is)
-    (same-letters c.check-one.result.table c.check-two.result.table c.if-left-right.false c.if-left-right-2.false)
-    (elim c.then-left-right-gt8.branch [
-      | then-left-right-gt8-via-then-left-right-gt8 w ↦ rw (lt-ltb _ _ w.if-left-right-gt8.true)
-      | then-left-right-gt8-via-else-left-right-gt8+then-left-right-gt8-2 w ↦
-          rw (le-ltb _ _ w.if-left-right-gt8.false, lt-ltb _ _ w.if-left-right-gt8-2.true)
-    ]))
+pub returns-then-first-second-gt8 : goal.returns-then-first-second-gt8
+returns-then-first-second-gt8 c =
+    let first = of_table 1 _ (λ f g k. search (rules, tests)) _ _ c.map_err.result c.check.ensures c.map_err.ensures.cases _
+    c.in_ok-first.was in
+    let second = of_table 2 _ (λ f g k. search (rules, tests)) _ _ c.map_err-2.result c.check-2.ensures c.map_err-2.ensures.cases _
+    c.in_ok-second.was in
+    let same = same-letters c.in_ok-first.first c.in_ok-second.second c.if-first-second.false c.if-first-second-2.false in
+    let over : size_over c.in_ok-first.first c.in_ok-second.second ≡ true = elim c.then-first-second-gt8.branch [
+      | then-first-second-gt8-via-then-first-second-gt8 w ↦ rw (lt-ltb _ _ w.if-first-second-gt8.true)
+      | then-first-second-gt8-via-else-first-second-gt8+then-first-second-gt8-2 w ↦
+          rw (le-ltb _ _ w.if-first-second-gt8.false, lt-ltb _ _ w.if-first-second-gt8-2.true)
+    ] in
+    rw c.at-then-first-second-gt8.ensures (sym (sizes_left _ _ first second ∙ rw (same, over)))
 
 pub returns : goal.returns
 returns c =
-    readings-of _ _ c.with_tables-2.ensures c.check-one.ensures c.check-two.ensures
-    (all_pass _ _ _ _ (both _ _ _ _ c.check-one.ensures c.check-two.ensures c.in_default.is c.in_default-two_checked.is)
-    (same-letters c.check-one.result.table c.check-two.result.table c.if-left-right.false c.if-left-right-2.false)
-    (rw (le-ltb _ _ c.if-left-right-gt8.false, le-ltb _ _ c.if-left-right-gt8-2.false)))
+    let first = of_table 1 _ (λ f g k. search (rules, tests)) _ _ c.map_err.result c.check.ensures c.map_err.ensures.cases _
+    c.in_ok-first.was in
+    let second = of_table 2 _ (λ f g k. search (rules, tests)) _ _ c.map_err-2.result c.check-2.ensures c.map_err-2.ensures.cases _
+    c.in_ok-second.was in
+    let same = same-letters c.in_ok-first.first c.in_ok-second.second c.if-first-second.false c.if-first-second-2.false in
+    let fit : size_over c.in_ok-first.first c.in_ok-second.second ≡ false =
+    rw (le-ltb _ _ c.if-first-second-gt8.false, le-ltb _ _ c.if-first-second-gt8-2.false) in
+    sym (sizes_left _ _ first second ∙ rw (same, fit))

@@ -1,39 +1,27 @@
 -- A turn puts what was read after what stands before it, and changes nothing of that.
-use Rattle.std.proofs.Common.{◌≡◌, ℕ, ◌+◌, ◌-◌, ◌≤◌, List, ◌++◌, length, take, slice_range, rules, arith}
-use Rattle.std.proofs.Common.{sym, ap, ◌∙◌, subst, le_refl, drop_at, length-take-le}
-use Rattle.std.proofs.lemmas.Slice.{take-put_mid_below}
+use Rattle.std.proofs.Common.{◌≡◌, ℕ, ◌+◌, ◌-◌, ◌≤◌, List, ◌++◌, length, take, rules}
+use Rattle.std.proofs.Common.{sym, ap, ◌∙◌, subst}
+use Rattle.std.proofs.lemmas.List.{length-take-le, take-append-le}
+use Rattle.std.proofs.Math.Seq.{take-append-add}
 use Rattle.std.specs.Io.KnownBytes.{Consumes}
 use Rattle.std.proofs.KnownBytes.{Consumes-trans}
 use borrow.Rule.Slice.PartMut.{put_mid, post_of}
-use lib.Seq.{take-add, take-append-le}
 use Rattle.lines.proofs.files.read_full.Goals as goal
 
-take_split : (a b : ℕ) (old new : List ℕ) → a ≤ b → take a new ≡ take a old → take a old ++ slice_range new a b ≡ take b new
-take_split a b old new h front =
-    let same : a + (b - a) ≡ b = omega arith in
-    ap (λ l. l ++ slice_range new a b) (sym front) ∙ sym (take-add a (b - a) new) ∙ ap (λ n. take n new) same
-
-slice_range-put_mid : (a k n : ℕ) (xs ys : List ℕ) → a ≤ length xs → n ≤ length ys
-    → slice_range (put_mid a k xs ys) a (a + n) ≡ take n ys
-slice_range-put_mid a k n xs ys within fits =
-    let same : (a + n) - a ≡ n = omega arith in
-    let after = post_of a k xs in
-    ap (take ((a + n) - a)) (drop_at (take a xs) (ys ++ after) a (length-take-le a xs within))
-    ∙ ap (λ m. take m (ys ++ after)) same
-    ∙ take-append-le n ys after fits
+-- the first n of what was put, after what stood before it
+taken : (a k n : ℕ) (old new : List ℕ) → a ≤ length old → n ≤ length new → take (a + n) (put_mid a k old new) ≡ take a old ++ take n new
+taken a k n old new within fits =
+    ap (λ (m : ℕ). take (m + n) (put_mid a k old new)) (sym (length-take-le a old within))
+    ∙ take-append-add (take a old) (new ++ post_of a k old) n
+    ∙ ap (λ l. take a old ++ l) (take-append-le n new (post_of a k old) fits)
 
 pub loop-done-preserved : goal.loop-done-preserved
 loop-done-preserved g c =
     let from = c.loop-done.done in
-    let bytes = c.loop-done.buf in
-    let n = c.in_ok-n.n in
-    let room = length bytes - from in
-    let new = put_mid from room bytes c.read.new.buf in
-    let within = c.loop-done.invariant.1 in
-    let part = slice_range-put_mid from room n bytes c.read.new.buf within c.in_ok-n.ensures.bound.0 in
-    let joined = take_split from (from + n) bytes new (omega arith) (take-put_mid_below _ _ _ _ _ (le_refl _) within) in (
+    let room = length c.loop-done.buf - from in
+    let n = c.in_ok-n.n in (
       search rules,
       search rules,
-      subst (Consumes _ _) (ap (λ l. take from bytes ++ l) (sym part) ∙ joined)
+      subst (Consumes _ _) (sym (taken from room n c.loop-done.buf c.read.new.buf c.loop-done.invariant.1 c.in_ok-n.ensures.bound.0))
           (Consumes-trans _ _ _ _ _ c.loop-done.invariant.2 c.in_ok-n.ensures.bytes.0),
     )

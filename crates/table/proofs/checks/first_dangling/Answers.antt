@@ -1,31 +1,19 @@
--- `first_dangling`: what its invariants come to at each of the goals below; how the proof goes stands beside them. Assumes nothing.
-use mathlib.Core.Path.{sym, ap, ◌∙◌}
-use native.Mathlib.Omega.{arith}
-use borrow.Author.Count.{below_none, below_more}
+-- `first_dangling`: the position of a chunk with an edge that dangles is the place of its record. Assumes nothing.
+use mathlib.Core.Path.{◌∙◌}
 use borrow.Author.Rules.{rules}
+use borrow.Author.Tests.{tests}
+use Rattle.std.proofs.lemmas.Iterator.{YieldsList-from_slice}
+use Rattle.std.proofs.lemmas.Iterator.Search.{position_from_yields_List}
+use Rattle.meaning.specs.Records.{records_of}
 use Rattle.meaning.specs.Checks.{dangling}
-use Rattle.table.specs.Packed.{table_in}
-use Rattle.table.proofs.Records.{found_here, found_nowhere}
+use Rattle.table.specs.Packed.{table_in, of_bytes}
+use Rattle.table.proofs.Chains.{record-found}
 use Rattle.table.proofs.checks.first_dangling.Goals as goal
-
-pub loop-i-init : goal.loop-i-init
-loop-i-init c = (search rules, below_none _)
-
-pub returns-then-dangling : goal.returns-then-dangling
-returns-then-dangling c =
-    let test = dangling (table_in c.args.table) in
-    found_here test c.args.bytes.now c.loop-i.i c.loop-i.invariant.1 c.loop-i-test.true
-    (ap test (sym c.at.ensures) ∙ sym c.dangling.ensures ∙ c.if-dangling.true)
-
-pub loop-i-preserved : goal.loop-i-preserved
-loop-i-preserved c =
-    let test = dangling (table_in c.args.table) in (
-      search rules,
-      below_more _ _ c.loop-i.invariant.1
-          (ap test (sym c.at.ensures) ∙ sym c.dangling.ensures ∙ c.if-dangling.false),
-    )
 
 pub returns : goal.returns
 returns c =
-    let args = c.args in
-    found_nowhere (dangling (table_in args.table)) args.bytes.now c.loop-i.i c.loop-i.invariant.1 (omega arith)
+    let chunks = c.records.result.now in
+    let test = dangling (table_in c.args.table) in
+    position_from_yields_List (λ bytes. test (of_bytes bytes)) _ _ _ c.position.ensures.ran (YieldsList-from_slice chunks cc)
+    (λ x b q k. search (rules, tests))
+    ∙ record-found test chunks (records_of c.args.bytes.now) c.records.ensures

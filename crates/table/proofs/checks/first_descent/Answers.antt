@@ -1,28 +1,27 @@
--- `first_descent`: what its invariants come to at each of the goals below; how the proof goes stands beside them. Assumes nothing.
-use mathlib.Core.Path.{sym, ap₂, ◌∙◌}
-use native.Mathlib.Omega.{arith}
-use borrow.Author.Count.{below_none, below_more}
+-- `first_descent`: the chain pairs each record with the next one, so that the record after the position it finds is the later one of the
+-- first bad pair. Assumes nothing.
+use mathlib.Core.Path.{ap, ◌∙◌}
+use Prim.Native.Nat.{ℕ, ◌+◌}
 use borrow.Author.Rules.{rules}
-use Rattle.meaning.specs.Records.{ascends}
-use Rattle.table.proofs.Records.{descent-here, descent-nowhere}
+use borrow.Author.Tests.{tests}
+use Rattle.std.specs.Option.{option_map}
+use Rattle.std.proofs.lemmas.Iterator.{YieldsList-from_slice, YieldsList-from_zip}
+use Rattle.std.proofs.lemmas.Iterator.Adapters.{YieldsList-from_skip}
+use Rattle.std.proofs.lemmas.Iterator.Consumers.{YieldsList-at}
+use Rattle.std.proofs.lemmas.Iterator.Search.{position_from_yields_List}
+use Rattle.meaning.specs.Records.{records_of}
+use Rattle.table.proofs.Chains.{descend, later, descent-found}
 use Rattle.table.proofs.checks.first_descent.Goals as goal
-
-pub loop-i-init : goal.loop-i-init
-loop-i-init c = (search rules, below_none _)
-
-pub returns-then-not-ascends : goal.returns-then-not-ascends
-returns-then-not-ascends c =
-    descent-here c.args.bytes.now c.loop-i.i c.loop-i.invariant.1 c.loop-i-test.true
-    (ap₂ ascends (sym c.at.ensures) (sym c.at-in-loop-i.ensures) ∙ sym c.ascends.ensures ∙ c.if-not-ascends.true)
-
-pub loop-i-preserved : goal.loop-i-preserved
-loop-i-preserved c = (
-  search rules,
-  below_more _ _ c.loop-i.invariant.1
-      (ap₂ ascends (sym c.at.ensures) (sym c.at-in-loop-i.ensures) ∙ sym c.ascends.ensures
-      ∙ c.if-not-ascends.false),
-)
 
 pub returns : goal.returns
 returns c =
-    descent-nowhere c.args.bytes.now c.loop-i.i c.loop-i.invariant.1 (omega arith)
+    let chunks = c.records-records.result.now in
+    later _ (λ x y k. search (rules, tests)) c.position.result c.map.result c.map.ensures.cases
+    ∙ ap (option_map (λ (x : ℕ). x + 1))
+    (position_from_yields_List {s = c.zip-neighbours.result} descend c.position.new.self _ _ c.position.ensures.ran
+    (YieldsList-from_zip
+    (YieldsList-at c.zip-neighbours.ensures.first (YieldsList-from_slice chunks cc))
+    (YieldsList-at c.zip-neighbours.ensures.second
+    (YieldsList-from_skip 1 (YieldsList-at c.skip.ensures.source (YieldsList-from_slice chunks cc)) c.skip.ensures.count)))
+    (λ x b q k. search (rules, tests)))
+    ∙ descent-found chunks (records_of c.args.bytes.now) c.records-records.ensures

@@ -1,27 +1,17 @@
--- `first_outside`: what its invariants come to at each of the goals below; how the proof goes stands beside them. Assumes nothing.
-use mathlib.Core.Path.{sym, ap, ◌∙◌}
-use native.Mathlib.Omega.{arith}
-use borrow.Author.Count.{below_none, below_more}
+-- `first_outside`: the position of a chunk with a byte outside is the place of its record. Assumes nothing.
+use mathlib.Core.Path.{◌∙◌}
 use borrow.Author.Rules.{rules}
-use Rattle.meaning.specs.Records.{outside}
-use Rattle.table.proofs.Records.{found_here, found_nowhere}
+use borrow.Author.Tests.{tests}
+use Rattle.std.proofs.lemmas.Iterator.{YieldsList-from_slice}
+use Rattle.std.proofs.lemmas.Iterator.Search.{position_from_yields_List}
+use Rattle.meaning.specs.Records.{records_of, outside}
+use Rattle.table.specs.Packed.{of_bytes}
+use Rattle.table.proofs.Chains.{record-found}
 use Rattle.table.proofs.checks.first_outside.Goals as goal
-
-pub loop-i-init : goal.loop-i-init
-loop-i-init c = (search rules, below_none _)
-
-pub returns-then-outside : goal.returns-then-outside
-returns-then-outside c =
-    found_here outside c.args.bytes.now c.loop-i.i c.loop-i.invariant.1 c.loop-i-test.true
-    (ap outside (sym c.at.ensures) ∙ sym c.outside.ensures ∙ c.if-outside.true)
-
-pub loop-i-preserved : goal.loop-i-preserved
-loop-i-preserved c = (
-  search rules,
-  below_more _ _ c.loop-i.invariant.1
-      (ap outside (sym c.at.ensures) ∙ sym c.outside.ensures ∙ c.if-outside.false),
-)
 
 pub returns : goal.returns
 returns c =
-    found_nowhere outside c.args.bytes.now c.loop-i.i c.loop-i.invariant.1 (omega arith)
+    let chunks = c.records.result.now in
+    position_from_yields_List (λ bytes. outside (of_bytes bytes)) _ _ _ c.position.ensures.ran (YieldsList-from_slice chunks cc)
+    (λ x b q k. search (rules, tests))
+    ∙ record-found outside chunks (records_of c.args.bytes.now) c.records.ensures

@@ -1,31 +1,18 @@
--- `total_on`: what its invariants come to at each of the goals below; how the proof goes stands beside them. Assumes nothing.
-use mathlib.Core.Path.{◌≡◌, sym, ◌∙◌, subst}
-use mathlib.Core.Bool.{true}
-use Prim.Native.Nat.{ℕ}
+-- `total_on`: all of the states, one by one, is what the word `each` says. Assumes nothing.
+use mathlib.Core.Path.{refl, ◌∙◌}
 use native.Mathlib.Omega.{arith}
 use borrow.Author.Rules.{rules}
-use Rattle.meaning.specs.Lists.{each}
+use borrow.Author.Tests.{tests}
+use Rattle.std.proofs.lemmas.Iterator.{YieldsList-from_range}
+use Rattle.std.proofs.lemmas.Iterator.Search.{all_from_yields_List}
 use Rattle.table.specs.Packed.{has_edge}
-use Rattle.meaning.proofs.Searches.{each_more, each-fails}
+use Rattle.table.proofs.Chains.{all-range}
 use Rattle.table.proofs.checks.total_on.Goals as goal
-
-pub returns-then-not-has_edge : goal.returns-then-not-has_edge
-returns-then-not-has_edge c =
-    let args = c.args in
-    sym (each-fails args.sources (has_edge args.targets args.reached args.letter) c.loop-p.p
-    c.loop-p-test.true
-    (sym c.has_edge.ensures ∙ c.if-not-has_edge.true))
-
-pub loop-p-preserved : goal.loop-p-preserved
-loop-p-preserved c =
-    let args = c.args in (
-      search rules,
-      each_more c.loop-p.p (has_edge args.targets args.reached args.letter) c.loop-p.invariant.1
-          (sym c.has_edge.ensures ∙ c.if-not-has_edge.false),
-    )
 
 pub returns : goal.returns
 returns c =
     let args = c.args in
-    let last : c.loop-p.p ≡ args.sources = omega arith in
-    sym (subst (λ (n : ℕ). each n (has_edge args.targets args.reached args.letter) ≡ true) last c.loop-p.invariant.1)
+    let test = has_edge args.targets args.reached args.letter in
+    all_from_yields_List test _ _ _ c.all.ensures.ran (YieldsList-from_range 0 args.sources args.sources refl (omega arith))
+    (λ x b q k. search (rules, tests))
+    ∙ all-range args.sources test

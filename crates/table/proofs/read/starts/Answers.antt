@@ -1,4 +1,5 @@
--- `starts`: what its invariants come to at each of the goals below; how the proof goes stands beside them. Assumes nothing.
+-- `starts`: a controller-turn state is the next one, and its bit is set if it is a start; any other record changes nothing. Assumes
+-- nothing.
 use mathlib.Core.Path.{sym, ap, ap₂, ◌∙◌}
 use mathlib.Core.Bool.{◌||◌}
 use mathlib.Core.List.{List}
@@ -16,43 +17,41 @@ use Rattle.table.proofs.OneMore.{of_kind-few, of_kind_other, states_this, starts
 use Rattle.table.proofs.read.starts.Goals as goal
 use Rattle.table.proofs.read.starts.Goals.{else-r-eq-CONTROLLER, then-r-eq-CONTROLLER, then-is_start, else-is_start}
 
-pub loop-i-init : goal.loop-i-init
+pub loop-r-init : goal.loop-r-init
 unfolding mask starts_of start_in of_kind
-loop-i-init c = search rules
+loop-r-init c = search rules
 
 pub overflow_add-q : goal.overflow_add-q
 overflow_add-q c =
-    omega (arith, of_kind-few controller c.loop-i.i (records_of c.args.bytes.now))
+    omega (arith, of_kind-few controller c.loop-r.r-index (records_of c.args.bytes.now))
 
-pub loop-i-preserved : goal.loop-i-preserved
-loop-i-preserved c =
+pub loop-r-preserved : goal.loop-r-preserved
+loop-r-preserved c =
     let bytes = c.args.bytes.now in
-    let i = c.loop-i.i in
+    let i = c.loop-r.r-index in
     let rs = take i (records_of bytes) in
-    let r = record_in c.at-r.result in
-    let next = next_record bytes i r c.loop-i-test.true c.at-r.ensures in
+    let r = record_in c.from-r.result in
+    let next = next_record c.records-r-items.result.now c.records-r-items.ensures i r c.loop-r-test.true c.from-r.ensures in
     rw next
     (elim c.if-r-eq-CONTROLLER.branch [
       | then-r-eq-CONTROLLER w ↦ (
-        search rules,
-        w.q-is ∙ ap (λ (n : ℕ). n + 1) c.loop-i.invariant.1 ∙ sym (states_this controller rs r w.if-r-eq-CONTROLLER.true),
+        w.q-is ∙ ap (λ (n : ℕ). n + 1) c.loop-r.invariant.0 ∙ sym (states_this controller rs r w.if-r-eq-CONTROLLER.true),
         w.set-is ∙ elim w.if-is_start.branch [
           | then-is_start v ↦ v.set-is ∙ v.with_state-set.ensures
-              ∙ ap₂ (λ (m n : ℕ). mask 8 (λ k. bit m k || eqb k n)) c.loop-i.invariant.2 c.loop-i.invariant.1
+              ∙ ap₂ (λ (m n : ℕ). mask 8 (λ k. bit m k || eqb k n)) c.loop-r.invariant.1 c.loop-r.invariant.0
               ∙ starts_this rs r w.if-r-eq-CONTROLLER.true (sym w.is_start.ensures ∙ v.if-is_start.true)
-          | else-is_start v ↦ v.set-is ∙ c.loop-i.invariant.2
+          | else-is_start v ↦ v.set-is ∙ c.loop-r.invariant.1
               ∙ starts_none rs r w.if-r-eq-CONTROLLER.true (sym w.is_start.ensures ∙ v.if-is_start.false)
         ],
       )
       | else-r-eq-CONTROLLER w ↦ (
-        search rules,
-        w.q-is ∙ c.loop-i.invariant.1 ∙ ap (λ (l : List Record). length l) (sym (of_kind_other controller rs r w.if-r-eq-CONTROLLER.false)),
-        w.set-is ∙ c.loop-i.invariant.2 ∙ starts_other rs r w.if-r-eq-CONTROLLER.false,
+        w.q-is ∙ c.loop-r.invariant.0 ∙ ap (λ (l : List Record). length l) (sym (of_kind_other controller rs r w.if-r-eq-CONTROLLER.false)),
+        w.set-is ∙ c.loop-r.invariant.1 ∙ starts_other rs r w.if-r-eq-CONTROLLER.false,
       )
     ])
 
 pub returns : goal.returns
 returns c =
-    c.loop-i.invariant.2
+    c.loop-r.invariant.1
     ∙ ap (λ (l : List Record). mask 8 (starts_of l))
-    (all_records c.args.bytes.now c.loop-i.i c.loop-i-test.false)
+    (all_records c.records-r-items.result.now c.records-r-items.ensures c.loop-r.r-index c.loop-r-test.false)

@@ -1,40 +1,39 @@
--- `ascends` compares byte by byte, as byte strings are: where two bytes differ they decide, and where they are equal the rest does.
--- Assumes nothing.
-use mathlib.Core.Path.{◌≡◌, sym, ◌∙◌}
-use mathlib.Core.Bool.{Bool, ◌&&◌, ◌||◌, or-false}
+-- `ascends` is the derived order, byte after byte: where two bytes differ they decide, and where they are equal the rest does. Assumes
+-- nothing.
+use mathlib.Core.Path.{◌≡◌, refl, ◌∙◌}
+use mathlib.Core.Bool.{Bool, true, false, ◌&&◌, ◌||◌, cond}
 use Prim.Native.Nat.{ℕ}
-use native.Mathlib.Omega.{arith}
 use lib.Dec.{ltb, eqb}
-use borrow.Author.Tests.{le-ltb, eq-eqb, ne_eqb}
+use Rattle.std.specs.Prelude.{Option, Some}
+use Rattle.std.specs.declared.cmp.Ordering.{Ordering}
+use Rattle.std.specs.declared.cmp.Ordering.TheVariants.{Less, Equal, Greater}
+use Rattle.std.specs.Ordering.{is_some_and, is_lt, partial_ordering_then, nat_cmp}
 use Rattle.meaning.specs.Records.{ascends}
 use Rattle.table.proofs.record.ascends.Goals as goal
 
-decided-here : (a b : ℕ) (rest : Bool) → (a ≡ b → ⊥) → ltb a b ≡ (ltb a b || eqb a b && rest)
-decided-here a b rest differ = rw (ne_eqb a b differ) (sym (or-false (ltb a b)))
+-- one byte, and then the rest
+byte-first : (x y : ℕ) (rest : Option Ordering)
+    → is_some_and is_lt (partial_ordering_then (Some (nat_cmp x y)) rest) ≡ (ltb x y || eqb x y && is_some_and is_lt rest)
+byte-first x y rest = go (ltb x y) (eqb x y)
+  where
+    go : (less same : Bool)
+        → is_some_and is_lt (partial_ordering_then (Some (cond less Less (cond same Equal Greater))) rest)
+        ≡ (less || same && is_some_and is_lt rest)
+    go true same = refl
+    go false true = refl
+    go false false = refl
 
-decided-later : (a b : ℕ) (rest : Bool) → a ≡ b → rest ≡ (ltb a b || eqb a b && rest)
-decided-later a b rest e = rw (eq-eqb a b e, le-ltb a b (omega arith))
-
-pub returns-then-a-b : goal.returns-then-a-b
-unfolding ascends
-returns-then-a-b c = decided-here _ _ _ c.if-a-b.true
-
-pub returns-then-a-b-2 : goal.returns-then-a-b-2
-unfolding ascends
-returns-then-a-b-2 c =
-    decided-here _ _ _ c.if-a-b-2.true
-    ∙ decided-later _ _ _ c.if-a-b.false
-
-pub returns-then-a-b-3 : goal.returns-then-a-b-3
-unfolding ascends
-returns-then-a-b-3 c =
-    decided-here _ _ _ c.if-a-b-3.true
-    ∙ decided-later _ _ _ c.if-a-b-2.false
-    ∙ decided-later _ _ _ c.if-a-b.false
+last-byte : (x y : ℕ) → is_lt (nat_cmp x y) ≡ ltb x y
+last-byte x y = go (ltb x y) (eqb x y)
+  where
+    go : (less same : Bool) → is_lt (cond less Less (cond same Equal Greater)) ≡ less
+    go true same = refl
+    go false true = refl
+    go false false = refl
 
 pub returns : goal.returns
 unfolding ascends
 returns c =
-    decided-later _ _ _ c.if-a-b-3.false
-    ∙ decided-later _ _ _ c.if-a-b-2.false
-    ∙ decided-later _ _ _ c.if-a-b.false
+    let a = c.args.a in
+    let b = c.args.b in
+    c.lt.ensures ∙ rw (byte-first a.kind b.kind, byte-first a.from b.from, byte-first a.letter b.letter, last-byte a.to b.to)
