@@ -3,10 +3,11 @@
 use mathlib.Core.Path.{◌≡◌, refl, sym, ap, ◌∙◌}
 use mathlib.Core.List.Memᴰ
 use mathlib.Core.List.{List, [], ◌∷◌, ◌++◌, map, map-append, reverse, reverse-cons, Memᴰ}
-use Prim.Native.Nat.{ℕ, suc, ◌+◌, ◌<◌}
+use Prim.Native.Nat.{ℕ, suc, ◌+◌, ◌-◌, ◌≤◌, ◌<◌}
 use native.Mathlib.Numerals.{add-one}
-use lib.ListN.{length, take, drop, get_or, set, length-map, get_or-map}
-use lib.Seq.{take-suc, drop-cons, split_at}
+use native.Mathlib.Omega.{arith}
+use lib.ListN.{length, take, drop, get_or, length-map, length-take, get_or-map}
+use lib.Seq.{take-suc, take-take, drop-cons, split_at, get_or-take, length-take-le}
 use Rattle.meaning.specs.Counting.{Position}
 use Rattle.counts.specs.Words.{counts_in}
 use Rattle.counts.proofs.Bytes.{counts_in-length}
@@ -59,3 +60,28 @@ module _ (set : List ℕ) (i : ℕ) (h : i < length set) where
   pub positions-from : positions (drop i set) ≡ counts_in (get_or set i 0) ∷ positions (drop (i + 1) set)
   unfolding positions
   positions-from = rw (add-one i, drop-cons set i 0 h)
+
+-- the first n positions
+abbrev pub front : List ℕ → ℕ → List Position
+front all n = positions (take n all)
+
+module _ (all : List ℕ) where
+  pub front-length : (n : ℕ) → n ≤ length all → length (front all n) ≡ n
+  front-length n h = positions-length (take n all) ∙ length-take-le n all h
+
+  -- the last of them
+  pub front-last : (i : ℕ) → 0 < i → i ≤ length all → front all i ≡ front all (i - 1) ++ counts_in (get_or all (i - 1) 0) ∷ []
+  front-last i l h =
+      let e : i ≡ i - 1 + 1 = omega arith in
+      ap (front all) e ∙ positions-next all (i - 1) (omega arith)
+
+  -- those after one of them
+  abbrev pub front-after : ℕ → ℕ → List Position
+  front-after i n = positions (drop (suc i) (take n all))
+
+  pub front-split : (i n : ℕ) → i < n → i < length all → front all n ≡ front all i ++ counts_in (get_or all i 0) ∷ front-after i n
+  unfolding positions
+  front-split i n l h =
+      ap (map counts_in) (split_at (take n all) i 0 (omega (arith, length-take n all)))
+      ∙ rw (take-take i n all (omega arith), get_or-take n all i 0 l)
+      (map-append counts_in (take i all) (get_or all i 0 ∷ drop (suc i) (take n all)))

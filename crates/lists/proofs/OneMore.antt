@@ -1,9 +1,10 @@
--- What a run over a list knows of it: whether a test holds of any, and those of which it does,
+-- What a run over a list knows of it: whether a test holds of any, the place of the first of which it does, and those of which it does,
 -- when one more member is seen at the list's end. Each by induction on the list. Assumes nothing.
 use mathlib.Core.Path.{◌≡◌, refl, ap, ◌∙◌}
-use mathlib.Core.Bool.{Bool, true, false, ◌||◌}
+use mathlib.Core.Bool.{Bool, true, false, cond, ◌||◌}
 use mathlib.Core.List.{List, [], ◌∷◌, ◌++◌, append-nil}
-use Rattle.meaning.specs.Lists.{any, keep}
+use Prim.Native.Nat.{ℕ, zero, suc}
+use Rattle.meaning.specs.Lists.{any, place, keep}
 use Rattle.meaning.proofs.Lists.{keep_append}
 
 module _ {A : Type 0} (f : A → Bool) where
@@ -14,6 +15,10 @@ module _ {A : Type 0} (f : A → Bool) where
 
   pub none_more : (xs : List A) (x : A) → any f xs ≡ false → f x ≡ false → any f (xs ++ x ∷ []) ≡ false
   none_more xs x p q = any_past xs x q ∙ p
+
+  pub place_past : (xs : List A) (x : A) → f x ≡ true → place f (xs ++ x ∷ []) ≡ place f xs
+  place_past [] x q = rw q refl
+  place_past (y ∷ xs) x q = ap (λ (r : ℕ). cond (f y) zero (suc r)) (place_past xs x q)
 
   -- those of which it holds
   pub keep-more : (xs : List A) (x : A) → f x ≡ true → keep f (xs ++ x ∷ []) ≡ keep f xs ++ x ∷ []

@@ -1,19 +1,20 @@
 -- Words cover what they cover turned round, since a test holds of a member of a list turned round if it does of one of the list; and a test
--- keeps no more of a list than there is. Assumes nothing.
-use mathlib.Core.Path.{◌≡◌, sym, ◌∙◌}
+-- keeps no more of a list than there is, and fewer of its first than there are in all. Assumes nothing.
+use mathlib.Core.Path.{◌≡◌, sym, ap, ◌∙◌}
 use mathlib.Core.Logic.{⊎_elim}
 use mathlib.Core.Bool.{Bool}
 use mathlib.Core.List.{List, [], ◌∷◌, reverse}
-use Prim.Native.Nat.{ℕ, suc, ◌≤◌}
+use Prim.Native.Nat.{ℕ, suc, ◌≤◌, ◌<◌}
 use native.Mathlib.Nat.{le_refl}
 use native.Mathlib.Omega.{arith}
-use lib.ListN.{length}
+use lib.ListN.{length, take}
+use lib.Seq.{length-take-le}
 use Rattle.meaning.specs.Lists.{any, keep}
 use Rattle.meaning.specs.Counting.{Position, below, covered}
 use Rattle.meaning.proofs.Tests.{clash, decided, refuted}
 use Rattle.meaning.proofs.Lists.{any_at, any_of, keep_one_lem}
 use Rattle.lists.specs.Members.{positions}
-use Rattle.lists.proofs.Members.{positions-reverse}
+use Rattle.lists.proofs.Members.{positions-reverse, positions-length}
 use Rattle.lists.proofs.Sorted.{reverse-member, member-reverse}
 
 -- whether a test holds of a member
@@ -35,3 +36,16 @@ keep-length f [] = le_refl 0
 keep-length f (x ∷ xs) =
     keep_one_lem (f x) x (keep f xs) (λ l. length l ≤ suc (length xs)) (λ _. omega (arith, keep-length f xs))
     (λ _. omega (arith, keep-length f xs))
+
+-- those kept of the words before a place are fewer than the words
+pub fewer : (set out : List ℕ) (f : Position → Bool) (i : ℕ) → i < length set → positions out ≡ keep f (positions (take i set))
+    → length out < length set
+fewer set out f i h e =
+    omega (
+      arith,
+      positions-length out,
+      ap length e,
+      keep-length f (positions (take i set)),
+      positions-length (take i set),
+      length-take-le i set (omega (arith, h)),
+    )

@@ -78,6 +78,19 @@ fn part<const N: usize, const M: usize>(
     }
 }
 
+// Those of a list that another does not cover.
+fn rest<const N: usize>(set: &[u64], others: &[u64], out: &mut ArrayVec<u64, N>)
+    requires { length set.now ≤ N }
+    ensures { positions out.new.items ≡ keep (uncovered (positions others.now)) (positions set.now) }
+{
+    out.clear();
+    for p in set {
+        if !words::covers(others, *p) {
+            out.push(*p);
+        }
+    }
+}
+
 // Where a position below x climbs to by one run over the lesser counts of x and each of a list.
 fn climb_with(p: u64, x: u64, ys: &[u64]) -> u64
     requires { below (counts_in p) (counts_in x) ≡ true }
@@ -142,6 +155,10 @@ fn keep_rows<const N: usize>(
     requires { (length ys.now ≤ 256) × (array_vec_len out.old ≤ room) × (room ≤ N) }
     ensures { Holds room (rows_of (positions xs.now) (positions ys.now) (positions out.old.items)) out.new.items result }
 {
+    // most cuts leave nothing to pair: no row is made then
+    if xs.is_empty() {
+        return Ok(());
+    }
     let mut tops = List::new();
     for (i, x) in xs.iter().enumerate() {
         row(*x, ys, &mut tops);
@@ -183,9 +200,9 @@ pub fn together<const N: usize>(
     requires { (length set.now ≤ 256) × (room ≤ N) × (256 ≤ N) }
     ensures { Holds room (united (positions set.now) (positions backs.now)) out.new.items result }
 {
-    let mut dropped = List::new();
-    part(set, backs, &mut dropped, out);
-    if room < out.len() {
+    rest(set, backs, out);
+    let left = out.len();
+    if room < left {
         return Err(Full);
     }
     keep_row(backs, &[], &[], out, room)

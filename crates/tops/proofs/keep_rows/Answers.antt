@@ -1,9 +1,11 @@
 -- `keep_rows`: a row is the first of those that are left, and the rows after it are what its candidates may climb to. Where a row finds no
 -- room there is none at the end, since what the rows come to grows. Assumes nothing.
 use mathlib.Core.Path.{◌≡◌, refl, sym, ap, ◌∙◌}
-use mathlib.Core.List.{List, map, reverse}
+use mathlib.Core.List.{List, [], ◌∷◌, map, reverse}
 use Prim.Native.Nat.{ℕ, ◌+◌, ◌<◌, ◌-◌}
 use native.Mathlib.Omega.{arith}
+use Rattle.std.proofs.Common.{rules}
+use borrow.Author.Tests.{tests}
 use lib.ListN.{length, get_or, take, drop}
 use lib.Seq.{drop-length}
 use Rattle.std.proofs.lemmas.List.{take_rest}
@@ -29,6 +31,19 @@ stepped : (xs : List ℕ) (i : ℕ) → i < length xs → (ys kept row whole : L
 unfolding rows_of
 stepped xs i h ys kept row whole e all =
     rw (take_rest xs (i + 1), e) (ap (λ (l : List Position). rows_of l ys kept) (sym (positions-from xs i h)) ∙ all)
+
+-- no row, and nothing is kept beside what was
+no-rows : (xs : List ℕ) → length xs ≡ 0 → (ys kept : List Position) → kept ≡ rows_of (positions xs) ys kept
+unfolding rows_of positions
+no-rows [] e ys kept = refl
+no-rows (x ∷ xs) e ys kept = absurd (omega (arith, e))
+
+pub returns-then-is_empty : goal.returns-then-is_empty
+returns-then-is_empty g c =
+    let given = c.args in
+    let none : length given.xs.now ≡ 0 = search (rules, tests) in
+    holds_fits given.out.now.items c.requires.1
+    (no-rows given.xs.now none (positions given.ys.now) (positions given.out.now.items))
 
 pub loop-i-init : goal.loop-i-init
 loop-i-init g c = (c.requires.1, refl)

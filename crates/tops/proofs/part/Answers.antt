@@ -1,35 +1,19 @@
 -- `part`: one more position is kept by one of the two tests and dropped by the other. Neither list holds more than the positions seen, so
 -- there is room. At the end all are seen. Assumes nothing.
 use mathlib.Core.Path.{◌≡◌, sym, ap, ◌∙◌}
-use mathlib.Core.Bool.{Bool, true, false, not}
-use Prim.Native.Nat.{ℕ, ◌<◌}
-use mathlib.Core.List.{List}
+use mathlib.Core.Bool.{true, false, not}
 use native.Mathlib.Omega.{arith}
 use lib.ListN.{length, get_or, take}
-use lib.Seq.{take-length, length-take-le}
-use Rattle.meaning.specs.Lists.{keep}
-use Rattle.meaning.specs.Counting.{Position, covered}
+use lib.Seq.{take-length}
+use Rattle.meaning.specs.Counting.{covered}
 use Rattle.counts.specs.Words.{counts_in}
 use Rattle.lists.specs.Members.{positions}
-use Rattle.lists.proofs.Members.{positions-length, positions-more, positions-next}
+use Rattle.lists.proofs.Members.{positions-more, positions-next}
 use Rattle.lists.proofs.OneMore.{keep-more, keep_past}
 use Rattle.tops.specs.Candidates.{uncovered}
-use Rattle.tops.proofs.Positions.{keep-length}
+use Rattle.tops.proofs.Positions.{fewer}
 use Rattle.tops.proofs.part.Goals as goal
 use Rattle.tops.proofs.part.Goals.{else-covers, then-covers}
-
--- those kept of the words before a place are fewer than the words
-fewer : (set out : List ℕ) (f : Position → Bool) (i : ℕ) → i < length set → positions out ≡ keep f (positions (take i set))
-    → length out < length set
-fewer set out f i h e =
-    omega (
-      arith,
-      positions-length out,
-      ap length e,
-      keep-length f (positions (take i set)),
-      positions-length (take i set),
-      length-take-le i set (omega (arith, h)),
-    )
 
 pub loop-p-init : goal.loop-p-init
 unfolding positions

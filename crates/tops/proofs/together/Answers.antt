@@ -13,20 +13,20 @@ use Rattle.tops.proofs.Held.{holds-full}
 use Rattle.tops.proofs.Collect.{collected_grows}
 use Rattle.tops.proofs.together.Goals as goal
 
-pub returns-then-room-len : goal.returns-then-room-len
+pub returns-then-room-left : goal.returns-then-room-left
 unfolding united
-returns-then-room-len g c =
+returns-then-room-left g c =
     let E = positions c.args.backs.now in
     let left = keep (uncovered E) (positions c.args.set.now) in
     holds-full _ refl
     (omega (
       arith,
-      c.len.ensures.value,
+      c.len-left.ensures.value,
       collected_grows [] left E,
-      ap length {y = left} c.part.ensures.rest,
-      positions-length c.part.new.rest.items,
+      ap length {y = left} c.rest.ensures,
+      positions-length c.rest.new.out.items,
     ))
 
 pub returns : goal.returns
 unfolding united
-returns g c = rw (meets_none, c.part.ensures.rest) at c.keep_row.ensures
+returns g c = rw (meets_none, c.rest.ensures) at c.keep_row.ensures
