@@ -4,7 +4,7 @@ ghost use Rattle.meaning.specs.Lists.{smallest};
 ghost use Rattle.meaning.specs.Play.{Realizes, rows_in, row_next};
 ghost use Rattle.meaning.specs.Controller.{has_rows, inputs_in, followed};
 ghost use Rattle.table.specs.Packed.{table_in};
-ghost use Rattle.checker.specs.Begun.{Begun};
+ghost use Rattle.checker.specs.Begun.{BegunOnSome, Settled};
 ghost use Rattle.checker.specs.Followable.{Followable};
 
 use crate::lead::Play;
@@ -26,8 +26,8 @@ pub fn keeps(table: Table, k: usize, rows: &[u8]) -> bool
 // overruns k. Only a state whose counts have risen is led on again, and each of its eight counts can rise
 // k + 2 times.
 fn settles(play: &Play, begins: u64) -> bool
-    requires { Begun play.now.k (table_in play.now.table) begins }
-    ensures { (result ≡ true) ↔ Realizes play.now.k (table_in play.now.table) (followed play.now.rows) }
+    requires { BegunOnSome play.now begins }
+    ensures { Settled play.now begins result }
 {
     let mut counts = Counts::of(play.controller.first(), begins);
     let mut from = 0;
@@ -35,6 +35,7 @@ fn settles(play: &Play, begins: u64) -> bool
         let Some(s) = counts.first_risen(from) else {
             return true;
         };
+        counts.take(s);
         if !play.by_round(s, &mut counts) {
             return false;
         }
@@ -45,8 +46,8 @@ fn settles(play: &Play, begins: u64) -> bool
 // The lowest of the states that state s leads on to and of the one after s: no state below is flagged when
 // s, the first that was, has been led on.
 fn lowest(play: &Play, s: u8) -> usize
-    requires { has_rows (rows_in play.now.rows) s ≡ true }
-    ensures { result ≡ smallest (s + 1) (inputs_in (rows_in play.now.rows)) (row_next (rows_in play.now.rows) s) }
+    requires { has_rows (rows_in play.now.controller) s ≡ true }
+    ensures { result ≡ smallest (s + 1) (inputs_in (rows_in play.now.controller)) (row_next (rows_in play.now.controller) s) }
 {
     let controller = &play.controller;
     (0..controller.inputs())

@@ -5,21 +5,19 @@ ghost use Rattle.meaning.specs.Controller.{has_rows};
 ghost use Rattle.counts.specs.Words.{counts_in, mark_counts, SpreadsOf, SteppedForward};
 ghost use Rattle.table.specs.Packed.{table_in};
 ghost use Rattle.checker.specs.Followable.{Followable};
-ghost use Rattle.checker.specs.Played.{Played};
 ghost use Rattle.checker.specs.Stepped.{Steps};
 ghost use Rattle.checker.specs.LedByRound.{LedByInput, LedByRound};
 
 use crate::most::Counts;
 use counts::word;
 use rows::Controller;
-use std::marker::Model;
 use table::Table;
 
 // One side's half of a round in words: the spreads of its targets for each letter, and its marks.
 #[derive(Drop)]
 pub struct Turn {
-    spreads: [u64; 64],
-    marks: u64,
+    pub spreads: [u64; 64],
+    pub marks: u64,
 }
 
 impl Turn {
@@ -43,33 +41,24 @@ impl Turn {
     }
 }
 
-// Rows that can be followed on a table for the patience count k, and the words of the table's halves of a round.
+// What states are led on by: a patience count, a controller, and the words of both sides' halves of a round.
 #[derive(Drop)]
 pub struct Play<'a> {
-    table: Table,
-    k: usize,
+    pub k: usize,
     pub controller: Controller<'a>,
-    outputs: Turn,
-    inputs: Turn,
-}
-
-// It is the table, the patience count and the rows.
-impl<'a> Model for Play<'a> {
-    ghost Value = { Played };
-
-    ghost view = { λ p. record { table = p.table; k = p.k; rows = p.controller } };
-
-    ghost invariant = { λ p. Followable p.k (table_in p.table) p.controller × Steps (table_in p.table) p.outputs p.inputs };
+    pub outputs: Turn,
+    pub inputs: Turn,
 }
 
 impl<'a> Play<'a> {
     // The play of rows on a table.
     pub fn new(table: Table, k: usize, rows: &'a [u8]) -> Play<'a>
         requires { Followable k (table_in table) rows.now }
-        ensures { result ≡ record { table = table; k = k; rows = rows.now } }
+        ensures patience { result.k ≡ k }
+        ensures rows { result.controller ≡ rows.now }
+        ensures steps { Steps (table_in table) result.outputs result.inputs }
     {
         Play {
-            table,
             k,
             controller: Controller::new(rows),
             outputs: Turn::new(table.output_targets, table.world_marks),
@@ -79,7 +68,8 @@ impl<'a> Play<'a> {
 
     // Leads a middle position on by one input, to the counts of the next state; false if that is not safe.
     fn by_input(&self, middle: u64, input: usize, next: u8, counts: &mut Counts) -> bool
-        ensures { LedByInput self.now.k (table_in self.now.table) middle input next counts.old counts.new result }
+        requires { self.now.k ≤ 7 }
+        ensures { LedByInput self.now.k self.now.inputs middle input next counts.old counts.new result }
     {
         let after = self.inputs.forward(middle, input, self.k);
         if !word::safe(after, self.k) {
@@ -89,14 +79,15 @@ impl<'a> Play<'a> {
         true
     }
 
-    // Leads the counts of state s a round on, to those of each next state, and takes its flag down; false if a run
-    // overruns k.
+    // Leads the counts of state s a round on, to those of each next state; false if a run overruns k.
     pub fn by_round(&self, s: u8, counts: &mut Counts) -> bool
-        requires { has_rows (rows_in self.now.rows) s ≡ true }
-        ensures { LedByRound self.now.k (table_in self.now.table) (rows_in self.now.rows) s counts.old counts.new result }
+        requires { (self.now.k ≤ 7) × (has_rows (rows_in self.now.controller) s ≡ true) }
+        ensures { LedByRound self.now s counts.old counts.new result }
     {
         let output = self.controller.output(s) as usize;
-        let middle = self.outputs.forward(counts.take(s), output, self.k);
+        let middle = self
+            .outputs
+            .forward(counts.most[s as usize], output, self.k);
         for i in 0..self.controller.inputs() {
             if !self.by_input(middle, i, self.controller.next(s, i), counts) {
                 return false;

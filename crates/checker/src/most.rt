@@ -1,5 +1,5 @@
 // The largest counts of each controller state's runs, and raising them.
-ghost use Rattle.std.specs.Prelude.{◌≡◌, true, false, MatchOption, length, replicate, slice_index, slice_set};
+ghost use Rattle.std.specs.Prelude.{◌≡◌, ◌<◌, true, false, MatchOption, length, replicate, slice_index, slice_set};
 ghost use Rattle.meaning.specs.Lists.{place};
 ghost use Rattle.counts.specs.Words.{counts_in};
 ghost use Rattle.checker.specs.Raised.{NoneBefore, RaisedSafely};
@@ -9,8 +9,8 @@ use counts::word;
 // The largest counts of each state, and whether they have risen since they were last led on.
 #[derive(Drop)]
 pub struct Counts {
-    most: [u64; 256],
-    risen: [bool; 256],
+    pub most: [u64; 256],
+    pub risen: [bool; 256],
     ghost for_all: { length risen ≡ 256 },
 }
 
@@ -49,16 +49,23 @@ impl Counts {
         self.most[s as usize]
     }
 
-    // Raises the counts of state s to those of m where m's are greater, and flags s if one is.
+    // Raises the counts of state s to those of m, as the function below does in any two slices.
     pub fn raise(&mut self, s: u8, m: u64)
         ensures { RaisedSafely s (counts_in m) self.old.most self.old.risen self.new.most self.new.risen }
     {
-        let s = s as usize;
-        let held = self.most[s];
-        if word::compare(m, held).at_most() {
-            return;
-        }
-        self.most[s] = word::greater(held, m);
-        self.risen[s] = true;
+        raise(&mut self.most, &mut self.risen, s as usize, m);
     }
+}
+
+// Raises the counts of state s to those of m where m's are greater, and flags s if one is.
+pub fn raise(most: &mut [u64], risen: &mut [bool], s: usize, m: u64)
+    requires { (s < length most.old) × (s < length risen.old) }
+    ensures { RaisedSafely s (counts_in m) most.old risen.old most.new risen.new }
+{
+    let held = most[s];
+    if word::compare(m, held).at_most() {
+        return;
+    }
+    most[s] = word::greater(held, m);
+    risen[s] = true;
 }

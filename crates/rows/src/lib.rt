@@ -164,7 +164,7 @@ pub fn states(rows: &[u8]) -> usize
 }
 
 // Where each state's rows begin.
-fn places(rows: &[u8]) -> [u16; 256]
+pub fn places(rows: &[u8]) -> [u16; 256]
     requires { length (rows_in rows.now) ≤ 2048 }
     ensures { Placed (rows_in rows.now) result }
 {
@@ -175,11 +175,12 @@ fn places(rows: &[u8]) -> [u16; 256]
     places
 }
 
-// Well-formed rows, and where each state's begin.
+// Well-formed rows, where each state's begin, and how many inputs they have.
 #[derive(Drop)]
 pub struct Controller<'a> {
     rows: &'a [u8],
     places: [u16; 256],
+    inputs: usize,
 }
 
 // It is the bytes of its rows.
@@ -188,7 +189,7 @@ impl<'a> Model for Controller<'a> {
 
     ghost view = { λ c. c.rows.now };
 
-    ghost invariant = { λ c. Ready c.rows.now c.places };
+    ghost invariant = { λ c. Ready c.rows.now c.places × (c.inputs ≡ inputs_in (rows_in c.rows.now)) };
 }
 
 impl<'a> Controller<'a> {
@@ -200,6 +201,7 @@ impl<'a> Controller<'a> {
         Controller {
             rows,
             places: places(rows),
+            inputs: inputs(rows),
         }
     }
 
@@ -214,7 +216,7 @@ impl<'a> Controller<'a> {
     pub fn inputs(&self) -> usize
         ensures { result ≡ inputs_in (rows_in self.now) }
     {
-        inputs(self.rows)
+        self.inputs
     }
 
     // A state's output.

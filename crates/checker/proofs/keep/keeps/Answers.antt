@@ -14,9 +14,11 @@ use Rattle.counts.specs.Halves.{start_counts}
 use Rattle.counts.specs.Words.{counts_in}
 use Rattle.table.specs.declared.Table.{Table}
 use Rattle.table.specs.Packed.{table_in}
+use Rattle.checker.specs.Begun.{Begun}
 use Rattle.checker.specs.Followable.{Followable}
 use Rattle.checker.proofs.Counts.{safe_wide}
 use Rattle.checker.proofs.keep.keeps.Goals as goal
+use Rattle.checker.proofs.keep.keeps.Goals.{After-new}
 
 module _ (K : ℕ) (table : Table) (begins : ℕ)
     (started : counts_in begins ≡ position_bytes (start_counts K table.controllers table.starts table.controller_marks)) where
@@ -32,16 +34,23 @@ module _ (K : ℕ) (table : Table) (begins : ℕ)
       let t = table_in table in
       rw begun (safe_wide K (start_position K t) (rw (start-length K t) f.bounded.small.controllers) ∙ realizes_safe K t _ realizes)
 
+-- what `settles` begins with
+made : (c : After-new) → Begun (table_in c.args.table) c.new.result c.start-begins.result
+made c =
+    record {
+      followable = rw (c.new.ensures.patience, c.new.ensures.rows) c.requires;
+      steps = c.new.ensures.steps;
+      starts = rw c.new.ensures.patience (begun c.args.k c.args.table c.start-begins.result c.start-begins.ensures);
+      safely = rw c.new.ensures.patience (sym c.safe.ensures ∙ c.if-safe.true);
+    }
+
 pub settles-requires : goal.settles-requires
-settles-requires c =
-    rw c.new.ensures
-    (record {
-      starts = begun c.args.k c.args.table c.start-begins.result c.start-begins.ensures;
-      safely = sym c.safe.ensures ∙ c.if-safe.true;
-    })
+settles-requires c = (table_in c.args.table, made (goal.at.settles-requires c).After-new)
 
 pub returns-then-safe : goal.returns-then-safe
-returns-then-safe c = rw c.new.ensures at c.settles.ensures
+returns-then-safe c =
+    let settled = c.settles.ensures (table_in c.args.table) (made (goal.at.returns-then-safe c).After-new) in
+    rw (c.new.ensures.patience, c.new.ensures.rows) at settled
 
 pub returns-else-safe : goal.returns-else-safe
 returns-else-safe c = (

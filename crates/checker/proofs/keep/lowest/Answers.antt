@@ -29,12 +29,11 @@ fold-smallest f top (suc n) a =
 
 pub returns : goal.returns
 returns c =
-    let rows = rows_in c.play.inside.controller in
+    let rows = rows_in c.args.play.now.controller in
     let next : ℕ → ℕ = λ i. row_next rows c.args.s i in
-    rw (← c.play.view_is)
-    (fold_from_yields_List _ (λ x y. min x y) _ c.fold.result c.fold.ensures.ran
+    fold_from_yields_List _ (λ x y. min x y) _ c.fold.result c.fold.ensures.ran
     (YieldsList-from_map _ next (YieldsList-from_range 0 (inputs_in rows) (inputs_in rows) (cc) (omega arith)) c.map.ensures.closure
     (λ x r q k. search (rules, tests)))
     (λ x y z q k. search (rules, tests))
     ∙ fold-smallest next (c.args.s + 1) (inputs_in rows) 0
-    ∙ smallest-same _ (inputs_in rows) _ _ (λ i _. ap next (omega arith)))
+    ∙ smallest-same _ (inputs_in rows) _ _ (λ i _. ap next (omega arith))

@@ -15,7 +15,7 @@ overflow_add-place c =
     let bytes = c.self.inside.rows.now in
     let has : has_rows (rows_in bytes) c.args.state ≡ true = rw (← c.self.view_is) at c.requires.0 in
     let low : c.args.input < inputs_in (rows_in bytes) = rw (← c.self.view_is) at c.requires.1 in
-    omega (arith, (ready_place c.self.invariant has (omega arith)).1, low, (formed bytes c.self.invariant.formed).low)
+    omega (arith, (ready_place c.self.invariant.0 has (omega arith)).1, low, (formed bytes c.self.invariant.0.formed).low)
 
 pub returns : goal.returns
 returns c =
@@ -25,5 +25,5 @@ returns c =
     let low : c.args.input < inputs_in rows = rw (← c.self.view_is) at c.requires.1 in
     rw (← c.self.view_is)
     (ap (λ (r : Row). r.next) c.at.ensures
-    ∙ ap (λ (p : ℕ). (row rows (p + c.args.input)).next) (ready_place c.self.invariant has (omega arith)).0
-    ∙ sym (next-there rows (formed bytes c.self.invariant.formed) c.args.state has c.args.input (omega (arith, low))))
+    ∙ ap (λ (p : ℕ). (row rows (p + c.args.input)).next) (ready_place c.self.invariant.0 has (omega arith)).0
+    ∙ sym (next-there rows (formed bytes c.self.invariant.0.formed) c.args.state has c.args.input (omega (arith, low))))

@@ -13,4 +13,4 @@ returns c =
     let rows = rows_in c.self.inside.rows.now in
     rw (← c.self.view_is)
     (ap (λ (r : Row). r.output) c.at.ensures
-    ∙ ap (λ (p : ℕ). (row rows p).output) (ready_place c.self.invariant (rw (← c.self.view_is) at c.requires) (omega arith)).0)
+    ∙ ap (λ (p : ℕ). (row rows p).output) (ready_place c.self.invariant.0 (rw (← c.self.view_is) at c.requires) (omega arith)).0)

@@ -1,15 +1,14 @@
--- `Play::by_input`: the step in words stands for that of the table's half on the input, so it is safe if that is, and raises the next
+-- `Play::by_input`: the step in words stands for that of the half of a round they state, so it is safe if that is, and raises the next
 -- state's counts to it. Assumes nothing.
 use mathlib.Core.Path.{◌≡◌, sym, ap, ◌∙◌}
 use mathlib.Core.Bool.{Bool, true≢false}
 use Prim.Native.Nat.{ℕ, ◌≤◌}
 use lib.ListN.{length}
-use Rattle.meaning.specs.Table.{Half, on_input}
+use Rattle.meaning.specs.Table.{Half}
 use Rattle.meaning.specs.Counting.{Position, forward, safe}
 use Rattle.meaning.specs.Written.{position_bytes}
 use Rattle.meaning.proofs.Steps.{forward-length}
 use Rattle.counts.specs.Words.{counts_in}
-use Rattle.table.specs.Packed.{table_in}
 use Rattle.checker.proofs.Counts.{safe_wide}
 use Rattle.checker.proofs.Raising.{raised_wide}
 use Rattle.checker.proofs.lead.Play.by_input.Goals as goal
@@ -29,26 +28,17 @@ module _ (k : ℕ) (h : Half) (small : h.targets ≤ 8) (middle word : ℕ)
   judged e = e ∙ ap (safe k) stepped ∙ safe_wide k after few
 
 pub returns-then-not-safe : goal.returns-then-not-safe
-returns-then-not-safe c =
-    let p = c.self.inside in
-    let h = on_input (table_in p.table) c.args.input in
-    let small = c.self.invariant.0.bounded.small.controllers in
-    let stepped = c.forward-after.ensures h (c.self.invariant.1.on-inputs c.args.input) in
-    rw (← c.self.view_is) (
-      sym c.if-not-safe.true ∙ judged p.k h small c.args.middle c.forward-after.result stepped c.safe.ensures,
-      λ e. absurd (true≢false (sym e)),
-    )
+returns-then-not-safe c h stated small =
+    let told = judged c.args.self.now.k h small c.args.middle c.forward-after.result (c.forward-after.ensures h stated) c.safe.ensures in
+    (sym c.if-not-safe.true ∙ told, λ e. absurd (true≢false (sym e)))
 
 pub returns : goal.returns
-returns c =
-    let p = c.self.inside in
-    let h = on_input (table_in p.table) c.args.input in
+returns c h stated small =
+    let k = c.args.self.now.k in
     let middle = c.args.middle in
     let word = c.forward-after.result in
-    let small = c.self.invariant.0.bounded.small.controllers in
-    let stepped = c.forward-after.ensures h (c.self.invariant.1.on-inputs c.args.input) in
-    let raised = c.raise.ensures p.k (sym c.safe.ensures ∙ c.if-not-safe.false) in
-    rw (← c.self.view_is) (
-      sym c.if-not-safe.false ∙ judged p.k h small middle word stepped c.safe.ensures,
-      λ _. raised_wide (after p.k h small middle word stepped) (few p.k h small middle word stepped) (rw stepped at raised),
+    let stepped = c.forward-after.ensures h stated in
+    let raised = c.raise.ensures k (sym c.safe.ensures ∙ c.if-not-safe.false) in (
+      sym c.if-not-safe.false ∙ judged k h small middle word stepped c.safe.ensures,
+      λ _. raised_wide (after k h small middle word stepped) (few k h small middle word stepped) (rw stepped at raised),
     )
