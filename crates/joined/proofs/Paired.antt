@@ -1,7 +1,7 @@
 -- What the checks of two tables come to, part by part: a fault of the first table, then of the second, then 13 and 14; and what a call may
 -- take from it where they pass. By the laws of judging. Assumes nothing.
-use mathlib.Core.Path.{◌≡◌, ap, ◌∙◌}
-use mathlib.Core.Bool.{Bool, true, cond, not, ◌||◌}
+use mathlib.Core.Path.{◌≡◌, refl, sym, ap, ◌∙◌}
+use mathlib.Core.Bool.{Bool, true, false, cond, not, ◌||◌}
 use mathlib.Core.List.Memᴰ
 use mathlib.Core.List.{List, [], ◌∷◌, ◌++◌, map, append_assoc}
 use Prim.Native.Nat.{ℕ, ◌+◌, ◌%◌, ◌≤◌, ◌<◌}
@@ -27,11 +27,12 @@ use Rattle.table.specs.declared.Table.{Table}
 use Rattle.table.specs.Packed.{packed, table_in, of_bytes}
 use Rattle.table.specs.Checked.{reading_of}
 use Rattle.table.proofs.Records.{as_many, record-at}
-use Rattle.table.proofs.Judged.{by_reading, judge-told, told-passes, told-granted, table-refuses, table-passes}
+use Rattle.table.proofs.Judged.{by_reading, told, judge-told, told-passes, told-granted, table-refuses, table-passes}
 use Rattle.table.proofs.Judged.{passes-none-fails, reading-table}
 use Rattle.table.proofs.Good.{good-table}
 use Rattle.joined.specs.declared.pair.Tables.{Tables}
-use Rattle.joined.specs.Joined.{tables_in, pair_of, ReadBoth}
+use Rattle.joined.specs.declared.pair.Unpaired.{Unpaired}
+use Rattle.joined.specs.Joined.{tables_in, with_tables, pair_of, ReadBoth}
 
 -- 13 and 14
 abbrev size_checks : List ℕ → List ℕ → List Check
@@ -44,48 +45,71 @@ letters_differ t u = not (eqb t.outputs u.outputs) || not (eqb t.inputs u.inputs
 abbrev pub size_over : Table → Table → Bool
 size_over t u = ltb 8 (t.controllers + u.controllers) || ltb 8 (t.worlds + u.worlds)
 
+-- what `pair` answers, without the tables beside a fault
+abbrev pub alone : Result Tables Unpaired → Result Tables Fault
+alone (Ok tables) = Ok tables
+alone (Err unpaired) = Err unpaired.fault
+
 module _ (one two : List ℕ) where
-  -- judging the checks gives what `pair` answers
-  pub judge-pair : {A : Type 0} (refuse : Check → A) (grant : A)
+  -- the checks, told with nothing beside a fault
+  abbrev pub told_pair : Result Tables Fault
+  told_pair = told (pair_checks one two) (tables_in one two)
+
+  -- a fault of theirs, beside what was read
+  abbrev pub refuses : Check → Result Tables Unpaired
+  refuses c = Err (with_tables (fault_of c) (reading_of one) (reading_of two))
+
+  told-alone : (cs : List Check) → told cs (tables_in one two) ≡ alone (judge cs refuses (Ok (tables_in one two)))
+  told-alone [] = refl
+  told-alone (c ∷ cs) = go c.failed (told-alone cs)
+    where
+      go : (b : Bool) → told cs (tables_in one two) ≡ alone (judge cs refuses (Ok (tables_in one two)))
+          → cond b (Err (fault_of c)) (told cs (tables_in one two)) ≡ alone (cond b (refuses c) (judge cs refuses (Ok (tables_in one two))))
+      go true rest = refl
+      go false rest = rest
+
+  -- so what `pair` answers tells them
+  pub pair-told : {answer : Result Tables Unpaired} → answer ≡ pair_of one two → told_pair ≡ alone answer
+  pair-told e = told-alone (pair_checks one two) ∙ sym (ap alone e)
+
+  -- and judging them gives what it says
+  pub judge-pair : {A : Type 0} (refuse : Check → A) (grant : A) {answer : Result Tables Unpaired} → answer ≡ pair_of one two
       → judge (pair_checks one two) refuse grant
-      ≡ by_reading (λ f. refuse (check f.refusal f.place f.which true)) (λ _. grant) (pair_of one two)
-  judge-pair refuse grant = judge-told (pair_checks one two) (tables_in one two) refuse grant
+      ≡ by_reading (λ f. refuse (check f.refusal f.place f.which true)) (λ _. grant) (alone answer)
+  judge-pair refuse grant e =
+      judge-told (pair_checks one two) (tables_in one two) refuse grant
+      ∙ ap (by_reading (λ (f : Fault). refuse (check f.refusal f.place f.which true)) (λ _. grant)) (pair-told e)
 
   -- part by part
-  refuse : Check → Result Tables Fault
-  refuse c = Err (fault_of c)
-
-  in_parts : pair_of one two ≡ judge (table_checks 1 one ++ (table_checks 2 two ++ size_checks one two)) refuse (Ok (tables_in one two))
-  unfolding pair_checks refuse
+  in_parts : pair_of one two ≡ judge (table_checks 1 one ++ (table_checks 2 two ++ size_checks one two)) refuses (Ok (tables_in one two))
+  unfolding pair_checks
   in_parts =
-      ap (λ (cs : List Check). judge cs refuse (Ok (tables_in one two)))
+      ap (λ (cs : List Check). judge cs refuses (Ok (tables_in one two)))
       (append_assoc (table_checks 1 one) (table_checks 2 two) (size_checks one two))
 
   -- a fault of the first table
-  pub first-fails : {f : Fault} → reading_of one ≡ Err f → pair_of one two ≡ Err (fault_of (check f.refusal f.place 1 true))
-  unfolding refuse
-  first-fails e = in_parts ∙ table-refuses 1 one (table_checks 2 two ++ size_checks one two) refuse (Ok (tables_in one two)) e
+  pub first-fails : {f : Fault} → reading_of one ≡ Err f → pair_of one two ≡ refuses (check f.refusal f.place 1 true)
+  first-fails e = in_parts ∙ table-refuses 1 one (table_checks 2 two ++ size_checks one two) refuses (Ok (tables_in one two)) e
 
   module _ {t : Table} (first : reading_of one ≡ Ok t) where
-    second_left : pair_of one two ≡ judge (table_checks 2 two ++ size_checks one two) refuse (Ok (tables_in one two))
+    second_left : pair_of one two ≡ judge (table_checks 2 two ++ size_checks one two) refuses (Ok (tables_in one two))
     second_left =
         in_parts
-        ∙ table-passes 1 one (table_checks 2 two ++ size_checks one two) refuse (Ok (tables_in one two)) (passes-none-fails one first 1)
+        ∙ table-passes 1 one (table_checks 2 two ++ size_checks one two) refuses (Ok (tables_in one two)) (passes-none-fails one first 1)
 
     -- of the second
-    pub second-fails : {f : Fault} → reading_of two ≡ Err f → pair_of one two ≡ Err (fault_of (check f.refusal f.place 2 true))
-    unfolding refuse
-    second-fails e = second_left ∙ table-refuses 2 two (size_checks one two) refuse (Ok (tables_in one two)) e
+    pub second-fails : {f : Fault} → reading_of two ≡ Err f → pair_of one two ≡ refuses (check f.refusal f.place 2 true)
+    second-fails e = second_left ∙ table-refuses 2 two (size_checks one two) refuses (Ok (tables_in one two)) e
 
     -- of neither: 13 and 14 are left
     module _ {u : Table} (second : reading_of two ≡ Ok u) where
       pub sizes_left : pair_of one two
-          ≡ cond (letters_differ t u) (Err (fault_of (check Letters 0 0 true)))
-          (cond (size_over t u) (Err (fault_of (check Size 0 0 true))) (Ok (record { first = t; second = u })))
-      unfolding other_letters too_large packed refuse
+          ≡ cond (letters_differ t u) (refuses (check Letters 0 0 true))
+          (cond (size_over t u) (refuses (check Size 0 0 true)) (Ok (record { first = t; second = u })))
+      unfolding other_letters too_large packed
       sizes_left =
           rw (reading-table one first, reading-table two second)
-          (second_left ∙ table-passes 2 two (size_checks one two) refuse (Ok (tables_in one two)) (passes-none-fails two second 2))
+          (second_left ∙ table-passes 2 two (size_checks one two) refuses (Ok (tables_in one two)) (passes-none-fails two second 2))
 
 -- a table that passes has at most 8 states on a side
 pub few-states : (bytes : List ℕ) (t : Table) → t ≡ packed (table_of (records_of bytes)) → N.Passes (table_checks 0 bytes)
@@ -127,13 +151,13 @@ joinable one two p =
 -- what two tables that were checked and read are known to be
 module _ (one two : List ℕ) {tables : Tables} (both : ReadBoth one two tables) where
   pub read-passes : N.Passes (pair_checks one two)
-  read-passes = told-passes (pair_checks one two) (tables_in one two) tables both.both_read
+  read-passes = told-passes (pair_checks one two) (tables_in one two) tables (pair-told one two (sym both.both_read))
 
   pub read-joinable : Joinable one two
   read-joinable = joinable one two read-passes
 
   read-both : tables ≡ tables_in one two
-  read-both = told-granted (pair_checks one two) (tables_in one two) tables both.both_read
+  read-both = told-granted (pair_checks one two) (tables_in one two) tables (pair-told one two (sym both.both_read))
 
   pub read_first : tables.first ≡ packed (stated one)
   read_first = ap (λ (p : Tables). p.first) read-both

@@ -7,13 +7,11 @@ use Prim.Native.Nat.{ℕ, ◌≤◌, ◌<◌}
 use borrow.Author.Tests.{lt-ltb, le-ltb}
 use lib.ListN.{length}
 use Rattle.meaning.specs.declared.Answer.{Answer}
-use Rattle.meaning.specs.declared.Fault.{Fault}
 use Rattle.meaning.specs.declared.Refusal.TheVariants.{Room}
 use Rattle.meaning.specs.Join.{joined_bytes}
 use Rattle.meaning.specs.Checks.{check, judge, room_to_join, pair_checks, join_checks}
 use Rattle.meaning.specs.Answers.{join, joined_as, unjoined, joined_into}
 use Rattle.meaning.proofs.Checks.{judge-passes}
-use Rattle.table.proofs.Judged.{by_reading}
 use Rattle.game.proofs.InOrder.{told-passed}
 use Rattle.joined.proofs.Paired.{judge-pair, read-passes}
 use Rattle.join.proofs.checked_join.Goals as goal
@@ -38,9 +36,8 @@ returns-in_err-tables c =
     let two = c.args.second.now in
     let out = c.args.out.now in
     ap (λ (a : Answer). joined_as a out) (told-passed c.from_residual.result _ c.from_residual.ensures.1)
-    ∙ sym (roomy one two out c.if-out-lt4160.false ∙ judge-pair one two (unjoined out) (joined_into (joined_bytes one two) out)
-    ∙ ap (by_reading (λ (f : Fault). unjoined out (check f.refusal f.place f.which true)) (λ _. joined_into (joined_bytes one two) out))
-    (sym c.in_err-tables.ensures))
+    ∙ sym (roomy one two out c.if-out-lt4160.false
+    ∙ judge-pair one two (unjoined out) (joined_into (joined_bytes one two) out) c.in_err-tables.ensures)
 
 pub returns : goal.returns
 returns c =

@@ -15,8 +15,9 @@ use Rattle.meaning.specs.Checks.{Check, check, room, pair_checks, parts_checks, 
 use Rattle.meaning.specs.Answers.{Solved, solved, solved_from, parts, told, fault_of}
 use Rattle.game.proofs.InOrder.{bound-refused, room-refused, opened-on, fault-refused, read-on}
 use Rattle.joined.specs.declared.pair.Tables.{Tables}
+use Rattle.joined.specs.declared.pair.Unpaired.{Unpaired}
 use Rattle.joined.specs.Joined.{tables_in, pair_of, ReadBoth}
-use Rattle.joined.proofs.Paired.{read-passes}
+use Rattle.joined.proofs.Paired.{pair-told, read-passes}
 use Rattle.join.specs.Parts.{in_turn}
 use Rattle.join.proofs.checked_parts.Goals as goal
 
@@ -40,11 +41,12 @@ module _ (one two : List ℕ) (K N : ℕ) (win con : List ℕ) where
     cramped = room-refused K N win con (pair_checks one two ++ stages) grant patient
 
     module _ (roomy : (room N win con).failed ≡ false) where
-      faulty : {fault : Fault} → pair_of one two ≡ Err fault → (result : Result Answer Fault) → IsErrAnd result (λ f. f ≡ fault)
+      faulty : {unpaired : Unpaired} → Err unpaired ≡ pair_of one two → (result : Result Answer Fault)
+          → IsErrAnd result (λ f. f ≡ unpaired.fault)
           → solved (told result) win con ≡ parts one two K N win con
       unfolding parts parts_checks
       faulty f result e =
-          fault-refused (pair_checks one two) (tables_in one two) win con stages grant f result e
+          fault-refused (pair_checks one two) (tables_in one two) win con stages grant (pair-told one two f) result e
           ∙ opened-on K N win con (pair_checks one two ++ stages) grant patient roomy
 
       admitted : {tables : Tables} → ReadBoth one two tables → in_turn one two K N win con ≡ parts one two K N win con
@@ -70,7 +72,7 @@ unfolding room
 returns-in_err-tables c =
     let given = c.args in
     faulty given.first.now given.second.now given.k given.room given.winners.now given.controller.now c.if-k-gt7.false
-    (sym c.small_room.ensures ∙ c.if-small_room.false) (sym c.in_err-tables.ensures) _ c.from_residual.ensures.1
+    (sym c.small_room.ensures ∙ c.if-small_room.false) c.in_err-tables.ensures _ c.from_residual.ensures.1
 
 pub in_turn-requires : goal.in_turn-requires
 unfolding room
