@@ -124,6 +124,10 @@ pub fn back(m: u64, half: Half, bars: &[u64; 8], most: u64) -> u64
 fn spread(mask: u8) -> u64
     ensures { counts_in result ≡ spread_counts mask }
 {
+    // most bytes of a small table have no target
+    if mask == 0 {
+        return 0;
+    }
     let own = (mask as u64 * ONES) & BITS;
     ((own + COUNTS) & TOPS) / 128 * 127
 }

@@ -2,7 +2,7 @@
 -- the place of its record, the greatest of the letters is the largest, and so on. Each by induction on the number or on the list. Assumes
 -- nothing.
 use mathlib.Core.Path.{◌≡◌, refl, sym, ap, ◌∙◌}
-use mathlib.Core.Bool.{Bool, true, false, cond, not, ◌&&◌, and_assoc, and-true}
+use mathlib.Core.Bool.{Bool, true, false, cond, not, ◌&&◌, ◌||◌, and_assoc, and-true}
 use mathlib.Core.List.{List, [], ◌∷◌, map}
 use Prim.Native.Nat.{ℕ, zero, suc, ◌+◌, ◌-◌, ◌<◌, max}
 use native.Mathlib.Nat.{zero-add}
@@ -11,10 +11,10 @@ use native.Mathlib.Numerals.{add-one}
 use native.Mathlib.Omega.{arith}
 use lib.ListN.{length, get_or, drop, length-map}
 use lib.Dec.{eqb, ltb}
-use borrow.Author.Tests.{lt-ltb, le-ltb}
+use borrow.Author.Tests.{lt-ltb, le-ltb, ne_eqb}
 use Rattle.std.specs.Prelude.{Option, Some, None, position, fold}
 use Rattle.std.specs.Option.{MatchOption, IsSomeAnd, option_map, unwrap_or}
-use Rattle.std.specs.List.{filter, zip, reduce, list_all, range_with_len, enumerate_from, position_or_len}
+use Rattle.std.specs.List.{filter, zip, reduce, list_all, list_any, range_with_len, enumerate_from, position_or_len}
 use Rattle.std.proofs.lemmas.List.{get_or-map, length-drop}
 use Rattle.std.proofs.lemmas.Slice.Zip.{length-zip}
 use Rattle.std.proofs.lemmas.List.FromFn.{length-range_with_len, get_or-range_with_len, length-enumerate_from, get_or-enumerate_from}
@@ -83,6 +83,26 @@ filtered kind (r ∷ rs) = ap (λ (l : List Record). cond (eqb r.kind kind) (r �
 pub kind-filtered : (kind : ℕ) (chunks : List (List ℕ)) (rs : List Record) → map of_bytes chunks ≡ rs
     → filter (λ (r : Record). eqb r.kind kind) (map of_bytes chunks) ≡ of_kind kind rs
 kind-filtered kind chunks rs e = rw e (filtered kind rs)
+
+-- whether a record of a kind is among them
+some_of : (kind : ℕ) (rs : List Record) → list_any (λ (r : Record). eqb r.kind kind) rs ≡ not (eqb (length (of_kind kind rs)) 0)
+unfolding of_kind
+some_of kind [] = refl
+some_of kind (r ∷ rs) = go (eqb r.kind kind) (some_of kind rs)
+  where
+    go : (b : Bool) → list_any (λ (r : Record). eqb r.kind kind) rs ≡ not (eqb (length (of_kind kind rs)) 0)
+        → (b || list_any (λ (r : Record). eqb r.kind kind) rs) ≡ not (eqb (length (cond b (r ∷ of_kind kind rs) (of_kind kind rs))) 0)
+    go true e = sym (ap not (ne_eqb (suc (length (of_kind kind rs))) 0 (λ z. omega (arith, z))))
+    go false e = e
+
+any_chunk : (kind : ℕ) (chunks : List (List ℕ))
+    → list_any (λ bytes. eqb (of_bytes bytes).kind kind) chunks ≡ list_any (λ (r : Record). eqb r.kind kind) (map of_bytes chunks)
+any_chunk kind [] = refl
+any_chunk kind (x ∷ xs) = ap (λ (b : Bool). eqb (of_bytes x).kind kind || b) (any_chunk kind xs)
+
+pub any_of_kind : (kind : ℕ) (chunks : List (List ℕ)) (rs : List Record) → map of_bytes chunks ≡ rs
+    → list_any (λ bytes. eqb (of_bytes bytes).kind kind) chunks ≡ not (eqb (length (of_kind kind rs)) 0)
+any_of_kind kind chunks rs e = any_chunk kind chunks ∙ rw e (some_of kind rs)
 
 -- so the states of a side each bear their number, and the number of letters is one more than the largest
 pub numbered-all : (ss : List Record)

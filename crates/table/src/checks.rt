@@ -63,16 +63,19 @@ fn first_descent(bytes: &[u8]) -> Option<usize>
         .map(|i| i + 1)
 }
 
-// 7: whether a side's state records aren't numbered 0, 1, 2 and so on, or the side has none.
+// 7: whether a side's state records aren't numbered 0, 1, 2 and so on, or the side has none. In a table in order the states come first, so
+// the look for one is short.
 fn misnumbered(bytes: &[u8], kind: u8) -> bool
     ensures { result ≡ not_numbered (of_kind kind (records_of bytes.now)) }
 {
-    let mut states = record::records(bytes)
+    let records = record::records(bytes);
+    let mut states = records
         .iter()
         .map(|r| Record::from(*r))
         .filter(|r| r.kind == kind)
         .enumerate();
-    read::states(bytes, kind) == 0 || !states.all(|(number, r)| usize::from(r.from) == number)
+    let some = records.iter().any(|r| Record::from(*r).kind == kind);
+    !some || !states.all(|(number, r)| usize::from(r.from) == number)
 }
 
 // 8: no start state.

@@ -27,7 +27,7 @@ pub fn read(bytes: &[u8]) -> Table
 }
 
 // How many state records of a kind there are.
-pub(crate) fn states(bytes: &[u8], kind: u8) -> usize
+fn states(bytes: &[u8], kind: u8) -> usize
     ensures { result ≡ length (of_kind kind (records_of bytes.now)) }
 {
     record::records(bytes)
