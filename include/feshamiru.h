@@ -19,8 +19,8 @@
    Threads    calls may be made in several threads at once, as long as what one of them writes to
               is lent to no other meanwhile; tables may be shared. tests/rust/calls.rs does so.
    Memory     a call takes none but its stack, and doesn't call itself, so the stack doesn't grow
-              with the table. Measured by bench/run on x86-64: 29,512 bytes for desk_solve,
-              39,784 for desk_parts and 7,336 for desk_check. Plan with 64 KiB for a thread that
+              with the table. Measured by bench/run on x86-64: 27,448 bytes for desk_solve,
+              37,960 for desk_parts and 7,096 for desk_check. Plan with 64 KiB for a thread that
               makes calls. */
 #ifndef FESHAMIRU_H
 #define FESHAMIRU_H

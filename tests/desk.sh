@@ -1005,6 +1005,17 @@ test_built() {
     [ "$status" -eq 0 ] || finish
 }
 
+# The scripts name a missing file before a program is called; a program that is called with one says so too.
+test_missing_files() {
+    none=$scratch/none
+    call "$root/tools/program" accept "$none" "$root/tables/lamp.rows" 1
+    says "a table that is missing, to the program for rows" 0 "$none: No such file or directory"
+    holds "nothing is printed for it" test ! -s "$scratch/out"
+    call "$root/tools/program" both join "$root/tables/work.tab" "$none"
+    says "a second table that is missing, to the program for two tables" 0 "$none: No such file or directory"
+    holds "nothing is printed for them" test ! -s "$scratch/out"
+}
+
 test_tables() {
     for table in owed silent first night loud lamp calm; do
         cp "$root/tables/$table.table" "$scratch/$table.table"
@@ -1236,6 +1247,7 @@ test_pictures
 test_table_pictures
 test_graphviz
 test_built
+test_missing_files
 test_tables
 test_examples
 test_joins
