@@ -20,7 +20,7 @@
               is lent to no other meanwhile; tables may be shared. tests/rust/calls.rs does so.
    Memory     a call takes none but its stack, and doesn't call itself, so the stack doesn't grow
               with the table. Measured by bench/run on x86-64: 27,448 bytes for desk_solve,
-              37,960 for desk_parts and 7,096 for desk_check. Plan with 64 KiB for a thread that
+              37,960 for desk_parts and 7,912 for desk_check. Plan with 64 KiB for a thread that
               makes calls. */
 #ifndef FESHAMIRU_H
 #define FESHAMIRU_H
